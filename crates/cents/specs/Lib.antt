@@ -1,0 +1,3 @@
+pub mod Passes
+pub mod Rounding
+pub mod Cutting

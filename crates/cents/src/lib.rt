@@ -1,0 +1,4 @@
+//! Whole cents: rounding, and cutting an amount over weights.
+pub mod cutting;
+pub mod rounding;
+pub mod weights;
