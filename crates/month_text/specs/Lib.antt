@@ -1,0 +1,7 @@
+pub mod Accepted
+pub mod Lines
+pub mod Members
+pub mod Months
+pub mod Numbers
+pub mod Ranges
+pub mod Spelling

@@ -1,0 +1,3 @@
+pub mod ExactShares
+pub mod ThreeMembers
+pub mod Zeros

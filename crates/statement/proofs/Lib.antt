@@ -1,0 +1,4 @@
+pub mod Columns
+pub mod Statements
+pub mod Passed
+pub mod Members
