@@ -1,7 +1,8 @@
 //! Rows of weights.
 ghost use Prim.Native.Nat.{_≤_, _*_, _^_};
 ghost use mathlib.Core.Path.{_≡_};
-ghost use lib.Dec.{eqb};
+ghost use lib.Dec.{eqb, leb};
+ghost use Rattle.cents.specs.Passes.{allPass};
 ghost use Rattle.std.specs.shelf.Lists.{sum};
 
 /// The sum of a row of weights.
@@ -25,4 +26,16 @@ pub fn adds_up<const N: usize>(weights: [u32; N], whole: u32) -> bool
         total = total.saturating_add(u64::from(*weight));
     }
     total == u64::from(whole)
+}
+
+/// Whether each number is at most a bound.
+pub fn each_at_most<const N: usize>(numbers: [u32; N], most: u32) -> bool
+    ensures { λ r. ⌜ r ≡ allPass (λ n. leb n most) (numbers .entry) ⌝ }
+{
+    for number in &numbers {
+        if *number > most {
+            return false;
+        }
+    }
+    true
 }

@@ -29,8 +29,8 @@ pools-done m d g s control amounts heads out ec a b c e =
     ∙ goes (λ sheet. next (costRule (m .control) (m .cost)) (λ amounts. next (bookRule noHeads amounts) (λ heads. done (costs (sheet .0) (sheet .1) (sheet .2) heads)))) a
 
 pub bill-done : (m : Month) (name : RuleName) (pools : List ℤ) (x : Told (List ComponentCharge × List MemberCharge)) → m .rule ≡ name → m .count ≤ 32 → done pools ≡ monthPools m
-    → x ≡ chargeMembers (sharesOf name) pools (take (m .count) (m .members)) → x ≡ billMonth m
+    → x ≡ chargeMembers (sharesOf name) (m .month) pools (take (m .count) (m .members)) → x ≡ billMonth m
 bill-done m name pools x e l p h =
-    h ∙ ap (λ n. chargeMembers (sharesOf n) pools (take (m .count) (m .members))) (sym e)
-    ∙ goes (λ pools. chargeMembers (sharesOf (m .rule)) pools (take (m .count) (m .members))) p
+    h ∙ ap (λ n. chargeMembers (sharesOf n) (m .month) pools (take (m .count) (m .members))) (sym e)
+    ∙ goes (λ pools. chargeMembers (sharesOf (m .rule)) (m .month) pools (take (m .count) (m .members))) p
     ∙ sym (cond-true (leb (m .count) 32) _ _ (le-leb (m .count) 32 l))

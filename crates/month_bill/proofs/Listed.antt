@@ -1,5 +1,6 @@
 -- Lists made member by member.
-use Prim.Native.Nat.{ℕ, _+_, _≤_, _<_}
+use Prim.Native.Nat.{ℕ, zero, suc, _+_, _≤_, _<_}
+use mathlib.Core.Bool.{Bool, true, false, cond}
 use native.Mathlib.Omega.{arith}
 use mathlib.Core.Path.{_≡_, refl, sym, ap, _∙_}
 use mathlib.Core.List.{List, [], _∷_, _++_}
@@ -7,42 +8,62 @@ use lib.IntN.{ℤ}
 use lib.ListN.{length, getD, set, take, drop}
 use Rattle.std.specs.declared.option.Option.{Option}
 use Rattle.std.specs.declared.option.Option.the-variants.{Some, None}
-use Rattle.std.proofs.shelf.Lists.{take-more-set, take-all, drop-more, drop-all, append-assoc, append-nil}
-use Rattle.refusal.specs.Answers.{Told, done, refused, next, bare}
+use Rattle.std.proofs.shelf.Lists.{take-more-set, take-all, drop-more, drop-all, append-assoc, append-nil, map-more, getD-take, length-take-le}
+use Rattle.refusal.specs.Answers.{Told, done, refused}
+use Rattle.refusal.proofs.Apart.{refused-done}
+use Rattle.cents.proofs.Tabulated.{tabulated}
 use Rattle.refusal.specs.declared.Layer.the-variants as layer
-use Rattle.units.specs.Kinds.{unitsOf}
+use Rattle.units.specs.declared.facts.Facts.{Facts}
+use Rattle.units.specs.Kinds.{lawful, kinds, unitsOf}
+use Rattle.cents.proofs.Options.{cond-some}
+use Rattle.bottom_books.specs.Tables.{cell, dated, peopled, rowsRule, tableRule}
+use Rattle.bottom_books.proofs.Small.{parted}
+use Rattle.statement.specs.Readings.{bookRow, bookRows}
 use Rattle.month_text.specs.declared.month.Member.{Member}
 use Rattle.charges_text.specs.declared.charges.MemberCharge.{MemberCharge}
 use Rattle.statement.specs.Charges.{memberCharges}
-use Rattle.month_bill.specs.Members.{rowRule, unitsRule, memberRows}
+use Rattle.month_bill.specs.Members.{factsOfAll, memberRows}
 
--- rows that stand in front of those that are left
-abbrev pub onto : List (List ℕ) → Told (List (List ℕ)) → Told (List (List ℕ))
-onto rows (done more) = done (rows ++ more)
-onto rows (refused n l p) = refused n l p
+pub facts-more : (members : List Member) (out : List Facts) (d : Member) (i : ℕ) (x : Facts) → i < length members → i < length out → x ≡ getD members i d .facts
+    → take i out ≡ factsOfAll (take i members) → take (i + 1) (set out i x) ≡ factsOfAll (take (i + 1) members)
+facts-more members out d i x l m e h =
+    take-more-set out i x m ∙ rw (h, e) (sym (map-more (λ (w : Member). w .facts) members i d l))
 
-onto-next : (rows : List (List ℕ)) (row : List ℕ) (t : Told (List (List ℕ))) → onto rows (next t (λ more. done (row ∷ more))) ≡ onto (rows ++ (row ∷ [])) t
-onto-next rows row (done more) = ap done (sym (append-assoc rows (row ∷ []) more))
-onto-next rows row (refused n l p) = refl
+pub facts-end : (members : List Member) (out : List Facts) (i : ℕ) → length members ≤ i → length out ≤ i → take i out ≡ factsOfAll (take i members) → out ≡ factsOfAll members
+facts-end members out i l m h = sym (take-all i out m) ∙ h ∙ ap factsOfAll (take-all i members l)
 
-module _ (members : List Member) (d : Member) (i : ℕ) (out : List (List ℕ)) (l : i < length members) (inv : onto (take i out) (unitsRule (drop i members)) ≡ unitsRule members) where
-  step : onto (take i out) (next (rowRule (unitsOf (getD members i d .facts))) (λ row. next (unitsRule (drop (i + 1) members)) (λ rows. done (row ∷ rows)))) ≡ unitsRule members
-  step = ap (λ (ms : List Member). onto (take i out) (unitsRule ms)) (sym (drop-more members i d l)) ∙ inv
+-- facts make rows of seven
+seven-rows : (facts : List Facts) (out : List (List ℕ)) → rowsRule unitsOf facts ≡ done out → (i : ℕ) → i < length out → length (getD out i []) ≡ 7
+seven-rows [] out e i l = let n : out ≡ [] = cc in absurd (omega (arith, ap length n))
+seven-rows (f ∷ facts) out e i l =
+    let p = parted (unitsOf f) (rowsRule unitsOf facts) out e in
+    let k = cond-some (lawful f) (kinds f) (p .0) (sym (p .2)) in
+    let n = ap length (p .4) in
+    rw (p .4) (elim i as (λ (j : ℕ). j < suc (length (p .1)) → length (getD (p .0 ∷ p .1) j []) ≡ 7) [ zero ↦ λ q. ap length (k .1) | suc j ↦ λ q. seven-rows facts (p .1) (p .3) j (omega arith) ] (omega (arith, n)))
 
-  pub units-stop : None ≡ unitsOf (getD members i d .facts) → refused 2 layer.Book 0 ≡ bare (unitsRule members)
-  units-stop e =
-      ap (λ (o : Option (List ℕ)). bare (onto (take i out) (next (rowRule o) (λ row. next (unitsRule (drop (i + 1) members)) (λ rows. done (row ∷ rows)))))) e ∙ ap bare step
+-- a table's rows are what its cells read as
+rows-read : (rows : List (List ℕ)) (m n : ℕ) → m + n ≤ length rows → ((i : ℕ) → i < m + n → length (getD rows i []) ≡ 7) → bookRows (cell rows) m n ≡ take n (drop m rows)
+rows-read rows m zero l h = refl
+rows-read rows m (suc n) l h =
+    let r : bookRow (cell rows) m ≡ getD rows m [] = sym (tabulated 0 7 (getD rows m []) (h m (omega arith))) in
+    let t = rows-read rows (m + 1) n (omega arith) (λ i q. h i (omega arith)) in
+    rw (r, t) (sym (ap (take (suc n)) (drop-more rows m [] (omega arith))))
 
-  pub units-more : (row : List ℕ) → i < length out → Some row ≡ unitsOf (getD members i d .facts) → onto (take (i + 1) (set out i row)) (unitsRule (drop (i + 1) members)) ≡ unitsRule members
-  units-more row lo e =
-      ap (λ (rows : List (List ℕ)). onto rows (unitsRule (drop (i + 1) members))) (take-more-set out i row lo)
-      ∙ sym (onto-next (take i out) row (unitsRule (drop (i + 1) members)))
-      ∙ ap (λ (o : Option (List ℕ)). onto (take i out) (next (rowRule o) (λ row. next (unitsRule (drop (i + 1) members)) (λ rows. done (row ∷ rows))))) e
-      ∙ step
+passed-rows : {R : Type 0} (reads : R → Option (List ℕ)) (month : ℕ) (rows : List R) (out : List (List ℕ)) → tableRule reads month rows ≡ done out → rowsRule reads rows ≡ done out
+passed-rows reads month rows out e = twice (dated month) (peopled (length rows)) (rowsRule reads rows) out e
+  where
+    twice : (a b : Bool) (t : Told (List (List ℕ))) (v : List (List ℕ)) → cond a (cond b t (refused 4 layer.Book 0)) (refused 2 layer.Book 0) ≡ done v → t ≡ done v
+    twice true true t v q = q
+    twice true false t v q = absurd (refused-done 4 layer.Book 0 v q)
+    twice false b t v q = absurd (refused-done 2 layer.Book 0 v q)
 
-pub units-end : (members : List Member) (i : ℕ) (out : List (List ℕ)) → length members ≤ i → length out ≤ i → onto (take i out) (unitsRule (drop i members)) ≡ unitsRule members → unitsRule members ≡ done out
-units-end members i out l m inv =
-    sym inv ∙ ap (λ (ms : List Member). onto (take i out) (unitsRule ms)) (drop-all i members l) ∙ ap done (append-nil (take i out) ∙ take-all i out m)
+-- the units that are read off a fact book are those of its facts
+pub book-read : (month n : ℕ) (facts : List Facts) (rows : List (List ℕ)) → n ≤ length rows → tableRule unitsOf month facts ≡ done (take n rows) → tableRule unitsOf month facts ≡ done (bookRows (cell rows) 0 n)
+book-read month n facts rows l e =
+    let p = passed-rows unitsOf month facts (take n rows) e in
+    let s = seven-rows facts (take n rows) p in
+    let f : (i : ℕ) → i < 0 + n → length (getD rows i []) ≡ 7 = λ i q. ap length (sym (getD-take n rows i [] (omega arith))) ∙ s i (omega (arith, length-take-le n rows l)) in
+    e ∙ ap done (sym (rows-read rows 0 n (omega arith) f))
 
 module _ (statement : List ℤ) (members : List Member) (i : ℕ) (out all : List MemberCharge) (inv : take i out ++ memberRows statement i (drop i members) ≡ all) where
   pub rows-more : (d : Member) (x : MemberCharge) → i < length members → i < length out → x ≡ record { account = getD members i d .account; charges = memberCharges statement i }

@@ -39,10 +39,11 @@ monthPools m =
     next (bookRule noHeads amounts) (λ heads.
     done (costs (sheet .0) (sheet .1) (sheet .2) heads))))
 
--- the members' units, the tests of a bill, and then what components and members are charged
-abbrev pub chargeMembers : Shares → List ℤ → List Member → Told (List ComponentCharge × List MemberCharge)
-chargeMembers shares pools members =
-    next (unitsRule members) (λ rows.
+-- the members' units by the month's fact book, the tests of a bill, and then what components and
+-- members are charged
+abbrev pub chargeMembers : Shares → ℕ → List ℤ → List Member → Told (List ComponentCharge × List MemberCharge)
+chargeMembers shares month pools members =
+    next (unitsRule month members) (λ rows.
     next (chargeRule pools rows (13 * length rows)) (λ _.
     done (components shares pools rows 13, memberRows (cells shares pools rows 13) 0 members)))
 
@@ -54,5 +55,5 @@ sharesOf Ratio = ratio
 abbrev pub billMonth : Month → Told (List ComponentCharge × List MemberCharge)
 billMonth m =
     cond (leb (m .count) 32)
-    (next (monthPools m) (λ pools. chargeMembers (sharesOf (m .rule)) pools (take (m .count) (m .members))))
+    (next (monthPools m) (λ pools. chargeMembers (sharesOf (m .rule)) (m .month) pools (take (m .count) (m .members))))
     (refused 4 layer.Ledger 0)

@@ -21,6 +21,7 @@ use sharing::ratio::Ratio;
 use sharing::ratio::RatioRule;
 use sharing::rule::Rule;
 use statement::month::charge_month;
+use units::facts::Facts;
 
 /// What a month's components and members are charged. Members from the month's count on are blank.
 #[derive(Clone, Copy)]
@@ -29,21 +30,24 @@ pub struct Bill {
     pub members: [MemberCharge; 32],
 }
 
-/// Charges members in memory that has a place for each: units, statement and charges.
+/// Charges members in memory that has a place for each: facts, units, statement and charges.
 fn charge_members<R: Rule>(
     rule: &R,
+    month: u32,
     pools: [i64; 13],
     members: &[Member],
+    facts: &mut [Facts],
     units: &mut [[u32; 7]],
     statement: &mut [i64],
     charges: &mut [MemberCharge],
 ) -> Result<[ComponentCharge; 13], Fault>
+    requires facts { ⌜ length (now facts) ≡ length (now members) ⌝ }
     requires units { ⌜ length (now units) ≡ length (now members) ⌝ }
     requires statement { ⌜ length (now statement) ≡ 13 * length (now members) ⌝ }
     requires charges { ⌜ length (now charges) ≡ length (now members) ⌝ }
-    ensures { λ r. ⌜ answerBy (λ components. (components, now (charges .exit))) r ≡ chargeMembers (shares (now (rule .entry))) pools (now (members .entry)) ⌝ }
+    ensures { λ r. ⌜ answerBy (λ components. (components, now (charges .exit))) r ≡ chargeMembers (shares (now (rule .entry))) month pools (now (members .entry)) ⌝ }
 {
-    member_units(members, units)?;
+    member_units(month, members, facts, units)?;
     let components = charge_month(rule, pools, units, statement)?;
     member_rows(members, statement, charges);
     Ok(components)
@@ -52,9 +56,10 @@ fn charge_members<R: Rule>(
 /// The same by a rule, in places of its own.
 fn charge_by<R: Rule>(rule: &R, month: &Month, pools: [i64; 13]) -> Result<Bill, Fault>
     requires { ⌜ now month .count ≤ 32 ⌝ }
-    ensures { λ r. ⌜ answerBy (λ bill. (bill .components, take (now (month .entry) .count) (bill .members))) r ≡ chargeMembers (shares (now (rule .entry))) pools (take (now (month .entry) .count) (now (month .entry) .members)) ⌝ }
+    ensures { λ r. ⌜ answerBy (λ bill. (bill .components, take (now (month .entry) .count) (bill .members))) r ≡ chargeMembers (shares (now (rule .entry))) (now (month .entry) .month) pools (take (now (month .entry) .count) (now (month .entry) .members)) ⌝ }
 {
     let count = month.count;
+    let mut facts = [Facts::of([0; 11]); 32];
     let mut units = [[0u32; 7]; 32];
     let mut statement = [0i64; 416];
     let blank = MemberCharge {
@@ -64,8 +69,10 @@ fn charge_by<R: Rule>(rule: &R, month: &Month, pools: [i64; 13]) -> Result<Bill,
     let mut members = [blank; 32];
     let components = charge_members(
         rule,
+        month.month,
         pools,
         &month.members[0..count],
+        &mut facts[0..count],
         &mut units[0..count],
         &mut statement[0..13 * count],
         &mut members[0..count],

@@ -11,6 +11,7 @@ use lib.ListN.{length, getD, set, drop, replicate}
 use Rattle.std.proofs.shelf.Lists.{drop-more, drop-all, getD-at, set-at, append-assoc, length-push}
 use Rattle.refusal.specs.Answers.{Told, done, refused, next, bare, after}
 use Rattle.refusal.specs.declared.Layer.{Layer}
+use Rattle.refusal.proofs.Apart.{refused-done}
 use Rattle.refusal.specs.declared.Layer.the-variants as layer
 use Rattle.tariff.specs.Heads.{at, within}
 use Rattle.voucher.specs.Calls.{openRule, lineRule, missed, balanceRule}
@@ -26,23 +27,20 @@ lines-step amounts cost i l = ap (linesRule amounts (i + 1)) (drop-more cost i (
 pub lines-end : (amounts cost : List ℤ) (i : ℕ) → length cost ≤ i → linesRule amounts (i + 1) (drop i cost) ≡ done amounts
 lines-end amounts cost i l = ap (linesRule amounts (i + 1)) (drop-all i cost l)
 
-apart : {T : Type 0} (n : ℕ) (l : Layer) (p : ℕ) (v : T) → refused n l p ≡ done v → ⊥
-apart n l p v e = let z : _≡_ {A = ℕ} 0 1 = cc in omega arith
-
 done-same : {T : Type 0} (u v : T) → done u ≡ done v → u ≡ v
 done-same u v e = cc
 
 done-cond : {T : Type 0} (b : Bool) (n : ℕ) (l : Layer) (p : ℕ) (u v : T) → done u ≡ cond b (done v) (refused n l p) → u ≡ v
 done-cond true n l p u v e = cc
-done-cond false n l p u v e = absurd (apart n l p u (sym e))
+done-cond false n l p u v e = absurd (refused-done n l p u (sym e))
 
 bare-next : {S T : Type 0} (t : Told S) (k : S → Told T) (n : ℕ) (l : Layer) (p : ℕ) → refused n l p ≡ bare t → refused n l p ≡ bare (next t k)
-bare-next (done v) k n l p e = absurd (apart n l p tt e)
+bare-next (done v) k n l p e = absurd (refused-done n l p tt e)
 bare-next (refused m j q) k n l p e = e
 
 done-after : (t : Told (List ℤ)) (old new : List ℤ) → done tt ≡ bare t → new ≡ after t (λ a. a) old → t ≡ done new
 done-after (done v) old new e f = ap done (sym f)
-done-after (refused m j q) old new e f = absurd (apart m j q tt (sym e))
+done-after (refused m j q) old new e f = absurd (refused-done m j q tt (sym e))
 
 module _ (amounts cost : List ℤ) (whole : Told (List ℤ)) (i : ℕ) (x : ℤ) (l : i < length cost) (ex : x ≡ getD cost i (pos 0)) (inv : linesRule amounts (i + 1) (drop i cost) ≡ whole) where
   step : next (lineRule amounts (i + 1) x) (λ held. linesRule held (i + 1 + 1) (drop (i + 1) cost)) ≡ whole
@@ -57,9 +55,9 @@ module _ (amounts cost : List ℤ) (whole : Told (List ℤ)) (i : ℕ) (x : ℤ)
 
 -- a chain of lines that is done went through its first line
 gone : {S T : Type 0} (a b : Bool) (v : S) (k : S → Told T) (x : T) → next (cond a (refused 12 layer.Voucher 0) (cond b (done v) (refused 12 layer.Voucher 0))) k ≡ done x → k v ≡ done x
-gone true b v k x e = absurd (apart 12 layer.Voucher 0 x e)
+gone true b v k x e = absurd (refused-done 12 layer.Voucher 0 x e)
 gone false true v k x e = e
-gone false false v k x e = absurd (apart 12 layer.Voucher 0 x e)
+gone false false v k x e = absurd (refused-done 12 layer.Voucher 0 x e)
 
 through : (amounts : List ℤ) (head : ℕ) (c : ℤ) (k : List ℤ → Told (List ℤ)) (x : List ℤ) → next (lineRule amounts head c) k ≡ done x → k (set amounts (head - 1) (at amounts (head - 1) +ℤ c)) ≡ done x
 through amounts head c k x e = gone (ltb head 1 || ltb 6 head) (within (at amounts (head - 1) +ℤ c)) (set amounts (head - 1) (at amounts (head - 1) +ℤ c)) k x e
@@ -80,11 +78,11 @@ filled pre (c ∷ cost) x e =
 -- a voucher that is filled and balanced has all its lines
 balanced : (b : Bool) (full x : List ℤ) → next {S = Unit {0}} (cond {A = Told (Unit {0})} b (done tt) (refused 13 layer.Voucher 0)) (λ _. done full) ≡ done x → full ≡ x
 balanced true full x e = done-same full x e
-balanced false full x e = absurd (apart 13 layer.Voucher 0 x e)
+balanced false full x e = absurd (refused-done 13 layer.Voucher 0 x e)
 
 lined : (control : ℤ) (t : Told (List ℤ)) (x : List ℤ) → next t (λ amounts. next (balanceRule control amounts) (λ _. done amounts)) ≡ done x → t ≡ done x
 lined control (done full) x e = ap done (balanced (eqb (missed control full) 0) full x e)
-lined control (refused n l p) x e = absurd (apart n l p x e)
+lined control (refused n l p) x e = absurd (refused-done n l p x e)
 
 full-lines : (control : ℤ) (held cost x : List ℤ) → fillRule control held cost ≡ done x → linesRule held 1 cost ≡ done x
 full-lines control held cost x e = lined control (linesRule held 1 cost) x e
@@ -108,5 +106,5 @@ module _ (control x : ℤ) (cost held : List ℤ) (c : ℤ) (s : State) (ex : x 
       filled [] cost full (rw (n, ← opened x c held s o .1) l)
 
 pub unbare : {T : Type 0} (t : Told T) (n : ℕ) (l : Layer) (p : ℕ) → refused n l p ≡ bare t → refused n l p ≡ t
-unbare (done v) n l p e = absurd (apart n l p tt e)
+unbare (done v) n l p e = absurd (refused-done n l p tt e)
 unbare (refused m j q) n l p e = cc

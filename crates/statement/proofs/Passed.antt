@@ -12,6 +12,7 @@ use Rattle.std.specs.shelf.Lists.{sum}
 use Rattle.std.proofs.shelf.Tests.{leb-true, eqb-true, and-parts, cases-eq}
 use Rattle.refusal.specs.Answers.{Told, done, refused, next}
 use Rattle.refusal.specs.declared.Layer.{Layer}
+use Rattle.refusal.proofs.Apart.{done-refused}
 use Rattle.refusal.specs.declared.Layer.the-variants as layer
 use Rattle.statement.specs.Columns.{column}
 use Rattle.statement.specs.Checks.{totalsRule, poolsRule, chargeRule}
@@ -19,16 +20,13 @@ use Rattle.statement.specs.Checks.{totalsRule, poolsRule, chargeRule}
 abbrev Passed : Type 0
 Passed = Told (Unit {0})
 
-apart : (n : ℕ) (l : Layer) (p : ℕ) → _≡_ {A = Passed} (done tt) (refused n l p) → ⊥
-apart n l p e = let z : _≡_ {A = ℕ} 0 1 = cc in omega arith
-
 kept : (b : Bool) (x : Passed) (n : ℕ) (l : Layer) (p : ℕ) → done tt ≡ cond b x (refused n l p) → (b ≡ true) × (done tt ≡ x)
 kept true x n l p e = (refl, e)
-kept false x n l p e = absurd (apart n l p e)
+kept false x n l p e = absurd (done-refused tt n l p e)
 
 both : (t u : Passed) → done tt ≡ next t (λ _. u) → (done tt ≡ t) × (done tt ≡ u)
 both (done v) u e = (refl, e)
-both (refused n l p) u e = absurd (apart n l p e)
+both (refused n l p) u e = absurd (done-refused tt n l p e)
 
 totals-all : (rows : List (List ℕ)) (k n : ℕ) → done tt ≡ totalsRule rows k n → (j : ℕ) → k ≤ j → j < k + n → sum (column rows j) ≤ 2000000000
 totals-all rows k zero e j low high = absurd (omega arith)

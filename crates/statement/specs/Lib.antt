@@ -1,3 +1,4 @@
 pub mod Columns
+pub mod Readings
 pub mod Checks
 pub mod Charges

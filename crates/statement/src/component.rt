@@ -4,9 +4,9 @@ ghost use mathlib.Core.Path.{_≡_};
 ghost use lib.IntN.{natAbs};
 ghost use lib.ListN.{length};
 ghost use Rattle.std.specs.shelf.Lists.{sum};
-ghost use Rattle.cents.specs.Cutting.{sumZ};
 ghost use Rattle.statement.specs.Columns.{kindOf, column};
 ghost use Rattle.statement.specs.Charges.{componentCharge};
+use cents::totals::sum_of;
 use charges_text::charges::ComponentCharge;
 use sharing::domain::total;
 use sharing::rule::Rule;
@@ -35,18 +35,6 @@ fn copy_column(units: &[[u32; 7]], kind: usize, out: &mut [u32])
     }
 }
 
-/// The sum of a row of cells, in a type that holds it.
-fn row_sum(row: &[i64]) -> i128
-    requires { ⌜ length (now row) ≤ 200 ⌝ }
-    ensures { λ r. ⌜ r ≡ sumZ (now (row .entry)) ⌝ }
-{
-    let mut sum = 0i128;
-    for cell in row {
-        sum += *cell as i128;
-    }
-    sum
-}
-
 /// Shares a pool over a kind's units into a row of cells.
 fn charge_row<R: Rule>(rule: &R, pool: i64, units: &[u32], row: &mut [i64]) -> ComponentCharge
     requires few { ⌜ length (now units) ≤ 200 ⌝ }
@@ -58,7 +46,7 @@ fn charge_row<R: Rule>(rule: &R, pool: i64, units: &[u32], row: &mut [i64]) -> C
 {
     let units_in_all = total(units) as u32;
     rule.share(pool, units, row);
-    let balance = (pool as i128 - row_sum(row)) as i64;
+    let balance = (pool as i128 - sum_of(row)) as i64;
     ComponentCharge {
         pool,
         units: units_in_all,

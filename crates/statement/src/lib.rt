@@ -2,3 +2,4 @@
 pub mod checks;
 pub mod component;
 pub mod month;
+pub mod reading;

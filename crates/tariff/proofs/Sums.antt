@@ -13,6 +13,7 @@ use Rattle.std.proofs.shelf.Lists.{getD-past, take-more, take-more-set, take-al
 use Rattle.std.proofs.shelf.Tests.{leb-true, cases-lt, cond-true, cond-false}
 use mathlib.Core.Logic.{⊎-elim}
 use Rattle.cents.specs.Passes.{allPass}
+use Rattle.cents.proofs.Options.{cond-none, cond-some}
 use Rattle.cents.proofs.Passes.{pass-at, pass-more, pass-not}
 use Rattle.tariff.specs.Heads.{at, within, sums, Small}
 
@@ -32,14 +33,6 @@ small-passed zs h k =
     ⊎-elim (λ (l : k < length zs). leb-true (natAbs (at zs k)) 4000000000 (pass-at within zs k (pos 0) l h))
     (λ (l : length zs ≤ k). rw (getD-past zs k (pos 0) l) (omega arith))
     (cases-lt k (length zs))
-
-pub cond-none : {X : Type 0} (b : Bool) (x : X) → None ≡ cond b (Some x) None → b ≡ false
-cond-none true x e = let z : _≡_ {A = ℕ} 0 1 = cc in absurd (omega arith)
-cond-none false x e = refl
-
-pub cond-some : {X : Type 0} (b : Bool) (x y : X) → Some y ≡ cond b (Some x) None → (b ≡ true) × (y ≡ x)
-cond-some true x y e = (refl, cc)
-cond-some false x y e = let z : _≡_ {A = ℕ} 0 1 = cc in absurd (omega arith)
 
 -- all sums, or nothing where one is out of range
 abbrev pub tried : List ℤ → List ℤ → Option (List ℤ)

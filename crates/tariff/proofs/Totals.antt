@@ -10,6 +10,7 @@ use Rattle.std.specs.shelf.Lists.{sum}
 use Rattle.std.proofs.shelf.Sums.{sumBy-cons}
 use Rattle.cents.specs.Rounding.{Inside}
 use Rattle.cents.specs.Cutting.{cut, sumZ}
+use Rattle.cents.proofs.Tabulated.{tabulated}
 use Rattle.cents.proofs.SignedSums.{sum-append}
 use Rattle.cents.proofs.Parts.{cut-inside, cut-sum, cut-length}
 use Rattle.tariff.specs.Heads.{at, Small}
@@ -23,17 +24,6 @@ inside-small (negsuc a) (negsuc d) n i h = omega (arith, i .1)
 
 pub cut-small : (a : ℤ) (ws : List ℕ) → natAbs a ≤ 4000000000 → Small (cut a ws)
 cut-small a ws h k = inside-small a (at (cut a ws) k) 4000000000 (cut-inside a ws k) h
-
--- a list by its places
-abbrev tabulate : ℕ → (ℕ → ℤ) → List ℤ
-tabulate zero f = []
-tabulate (suc n) f = f 0 ∷ tabulate n (λ i. f (suc i))
-
-listed : (n : ℕ) (zs : List ℤ) → length zs ≡ n → zs ≡ tabulate n (at zs)
-listed zero [] e = refl
-listed zero (z ∷ zs) e = absurd (omega arith)
-listed (suc n) [] e = absurd (omega arith)
-listed (suc n) (z ∷ zs) e = ap (λ (xs : List ℤ). z ∷ xs) (listed n zs (omega arith))
 
 halves-sum : (z : ℤ) (split : ℕ) → split ≤ 1000 → sumZ (cut z (halves split)) ≡ z
 halves-sum z split h = cut-sum z (halves split) (omega arith)
@@ -84,19 +74,19 @@ pub costs-sum : (division management split : List ℕ) (heads : List ℤ) → le
 costs-sum division management split heads ld lm lh hd hm a b =
     let p = divided division heads in
     let m = managed division management heads in
-    let e = sym (ap sumZ (listed 6 p (cut-length (at heads 0) division ∙ ld))) ∙ cut-sum (at heads 0) division hd in
-    let f = sym (ap sumZ (listed 4 m (cut-length (at p 4) management ∙ lm))) ∙ cut-sum (at p 4) management hm in
+    let e = sym (ap sumZ (tabulated (pos 0) 6 p (cut-length (at heads 0) division ∙ ld))) ∙ cut-sum (at heads 0) division hd in
+    let f = sym (ap sumZ (tabulated (pos 0) 4 m (cut-length (at p 4) management ∙ lm))) ∙ cut-sum (at p 4) management hm in
     components-sum split (service p m heads 0) (service p m heads 1) (service p m heads 2) (service p m heads 3) (settlement p heads) a b
     ∙ five-sum (at p 0) (at p 1) (at p 2) (at p 3) (at p 4) (at p 5) (at m 0) (at m 1) (at m 2) (at m 3) (at heads 0) (at heads 1) (at heads 2) (at heads 3) (at heads 4) (at heads 5) e f
-    ∙ sym (ap sumZ (listed 6 heads lh))
+    ∙ sym (ap sumZ (tabulated (pos 0) 6 heads lh))
 
 -- the parts laid side by side are the thirteen places
 pub joined-list : (a d : ℤ) (b c s : List ℤ) → length b ≡ 2 → length c ≡ 2 → length s ≡ 7
     → a ∷ at b 0 ∷ at b 1 ∷ at c 0 ∷ at c 1 ∷ d ∷ at s 0 ∷ at s 1 ∷ at s 2 ∷ at s 3 ∷ at s 4 ∷ at s 5 ∷ at s 6 ∷ [] ≡ a ∷ (b ++ (c ++ (d ∷ s)))
 joined-list a d b c s lb lc ls =
-    sym (ap (λ (xs : List ℤ). a ∷ (xs ++ (c ++ (d ∷ s)))) (listed 2 b lb)
-    ∙ ap (λ (xs : List ℤ). a ∷ at b 0 ∷ at b 1 ∷ (xs ++ (d ∷ s))) (listed 2 c lc)
-    ∙ ap (λ (xs : List ℤ). a ∷ at b 0 ∷ at b 1 ∷ at c 0 ∷ at c 1 ∷ d ∷ xs) (listed 7 s ls))
+    sym (ap (λ (xs : List ℤ). a ∷ (xs ++ (c ++ (d ∷ s)))) (tabulated (pos 0) 2 b lb)
+    ∙ ap (λ (xs : List ℤ). a ∷ at b 0 ∷ at b 1 ∷ (xs ++ (d ∷ s))) (tabulated (pos 0) 2 c lc)
+    ∙ ap (λ (xs : List ℤ). a ∷ at b 0 ∷ at b 1 ∷ at c 0 ∷ at c 1 ∷ d ∷ xs) (tabulated (pos 0) 7 s ls))
 
 pub part-small : (a x : ℤ) (ws : List ℕ) (zs : List ℤ) → x ≡ a → natAbs a ≤ 4000000000 → zs ≡ cut x ws → Small zs
 part-small a x ws zs e h f = rw (f, e) (cut-small a ws h)

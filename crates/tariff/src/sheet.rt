@@ -9,6 +9,7 @@ ghost use Rattle.std.specs.Results.{Cases};
 ghost use Rattle.std.specs.shelf.Lists.{sum};
 ghost use Rattle.tariff.specs.Sheets.{thousandths, sheetRule};
 use cents::weights::adds_up;
+use cents::weights::each_at_most;
 use refusal::Fault;
 use refusal::Layer;
 use refusal::Refusal;
@@ -25,18 +26,6 @@ pub struct Sheet {
     ghost divided: { sum division ≡ 1000 },
     ghost managed: { sum management ≡ 1000 },
     ghost parted: { thousandths split ≡ true },
-}
-
-/// Whether each number is at most 1,000.
-fn small<const N: usize>(numbers: [u32; N]) -> bool
-    ensures { λ r. ⌜ r ≡ thousandths (numbers .entry) ⌝ }
-{
-    for number in &numbers {
-        if *number > 1000 {
-            return false;
-        }
-    }
-    true
 }
 
 impl Sheet {
@@ -63,7 +52,9 @@ impl Sheet {
         ensures told { λ r. ⌜ answer r ≡ sheetRule division management split ⌝ }
         ensures after { λ r. ⌜ Cases r (λ _. (now (self .exit) .division ≡ division) × (now (self .exit) .management ≡ management) × (now (self .exit) .split ≡ split)) (λ _. now (self .exit) ≡ now (self .entry)) ⌝ }
     {
-        if !(small(division) && small(management) && small(split)) {
+        if !(each_at_most(division, 1000)
+            && each_at_most(management, 1000)
+            && each_at_most(split, 1000)) {
             return Err(Layer::Sheet.refuses(Refusal::Range));
         }
         if !(adds_up(division, 1000) && adds_up(management, 1000)) {

@@ -17,7 +17,8 @@ use Rattle.std.proofs.shelf.Tests.{le-ltb, or-from, cond-true, cond-false, leb-
 use Rattle.refusal.specs.Answers.{Told, done, refused}
 use Rattle.refusal.specs.declared.Layer.the-variants as layer
 use Rattle.tariff.specs.Heads.{at, within, Small}
-use Rattle.tariff.proofs.Sums.{one, cond-some}
+use Rattle.cents.proofs.Options.{cond-some}
+use Rattle.tariff.proofs.Sums.{one}
 use Rattle.voucher.specs.Calls.{lineRule}
 
 -- a number that went to its bits and back

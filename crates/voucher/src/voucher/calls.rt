@@ -6,6 +6,7 @@ ghost use Rattle.voucher.specs.Calls.{openRule, lineRule, lineState, balanceRu
 ghost use Rattle.voucher.specs.declared.voucher.State.the-variants.{Balanced};
 use crate::voucher::State;
 use crate::voucher::Voucher;
+use cents::totals::sum_of;
 use refusal::Fault;
 use refusal::Layer;
 use refusal::Refusal;
@@ -13,17 +14,6 @@ use tariff::heads::add_to_head;
 
 /// No control total is beyond this, on either side of 0.
 const MOST_CONTROL: i64 = 24_000_000_000;
-
-/// The sum of six amounts.
-fn total(amounts: [i64; 6]) -> i128
-    ensures { λ r. ⌜ r ≡ sumZ amounts ⌝ }
-{
-    let mut sum = 0i128;
-    for amount in &amounts {
-        sum += *amount as i128;
-    }
-    sum
-}
 
 impl Voucher {
     /// Opens a voucher for a control total.
@@ -65,7 +55,7 @@ impl Voucher {
         ensures state { λ _. ⌜ now (self .exit) .state ≡ after (balanceRule (now (self .entry) .control) (now (self .entry) .amounts)) (λ _. Balanced) (now (self .entry) .state) ⌝ }
         ensures kept { λ _. ⌜ (now (self .exit) .control ≡ now (self .entry) .control) × (now (self .exit) .amounts ≡ now (self .entry) .amounts) ⌝ }
     {
-        if total(self.amounts) != self.control as i128 {
+        if sum_of(&self.amounts) != self.control as i128 {
             return Err(Layer::Voucher.refuses(Refusal::Control));
         }
         self.state = State::Balanced;

@@ -18,7 +18,7 @@ use Rattle.sharing.proofs.Shared.{laid-is}
 use Rattle.statement.proofs.component.charge_row.Given as given
 use Rattle.statement.proofs.component.charge_row.Needs as need
 
-module _ (g : given.Over) (c : need.After-row-sum g) where
+module _ (g : given.Over) (c : need.After-sum-of g) where
   us : List ℕ
   us = c .args .units .now
 
@@ -31,9 +31,9 @@ module _ (g : given.Over) (c : need.After-row-sum g) where
       laid-is us (c .args .row .now) _ (c .share .last .out) (omega (arith, c .pre .long)) (c .share .ensures)
       ∙ ap (λ (p : ℤ). g .R·Rule .shares (c .args .rule .now) p us) (toZ-ofZ w64 (c .args .pool) (c .fits .pool))
 
-  summed : c .row-sum .result ≡ sumZ ss
+  summed : c .sum-of .result ≡ sumZ ss
   unfolding us ss
-  summed = c .row-sum .ensures ∙ ap sumZ told
+  summed = c .sum-of .ensures ∙ ap sumZ told
 
   small : natAbs (sumZ ss) ≤ 5000000200
   unfolding us ss

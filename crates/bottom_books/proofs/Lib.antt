@@ -1,0 +1,4 @@
+pub mod Rows
+pub mod Small
+pub mod Bounds
+pub mod Cells

@@ -1,0 +1,3 @@
+//! Corrections over any book.
+pub mod fixes;
+pub mod layer;
