@@ -61,17 +61,17 @@ pub standing-each : (hours days : ℕ) (s : Standing) → hours ≤ 745 → days
     → (s .transmission * hours ≤ 745000000) × (s .ftr * hours ≤ 745000000) × (s .bids ≤ 2000000000) × (s .energy * hours ≤ 745000000) × (s .segments ≤ 2000000000) × (s .capacity * days ≤ 31000000) × (s .invoices ≤ 2000000000)
 standing-each hours days s hh hd c =
     let l = and-parts (megawattsLawful s) (givenLawful s) c in
-    let m1 = and-parts (leb (s .transmission) 1000000) _ (l .0) in
-    let m2 = and-parts (leb (s .ftr) 1000000) _ (m1 .1) in
-    let m3 = and-parts (leb (s .energy) 1000000) (leb (s .capacity) 1000000) (m2 .1) in
+    let k1 = and-parts (leb (s .transmission) 1000000) _ (l .0) in
+    let k2 = and-parts (leb (s .ftr) 1000000) _ (k1 .1) in
+    let k3 = and-parts (leb (s .energy) 1000000) (leb (s .capacity) 1000000) (k2 .1) in
     let g1 = and-parts (leb (s .bids) 2000000000) _ (l .1) in
     let g2 = and-parts (leb (s .segments) 2000000000) (leb (s .invoices) 2000000000) (g1 .1) in (
-      mul-le-mul {n₂ = 1000000} {m₂ = 745} (leb-true (s .transmission) 1000000 (m1 .0)) hh,
-      mul-le-mul {n₂ = 1000000} {m₂ = 745} (leb-true (s .ftr) 1000000 (m2 .0)) hh,
+      mul-le-mul {n₂ = 1000000} {m₂ = 745} (leb-true (s .transmission) 1000000 (k1 .0)) hh,
+      mul-le-mul {n₂ = 1000000} {m₂ = 745} (leb-true (s .ftr) 1000000 (k2 .0)) hh,
       leb-true (s .bids) 2000000000 (g1 .0),
-      mul-le-mul {n₂ = 1000000} {m₂ = 745} (leb-true (s .energy) 1000000 (m3 .0)) hh,
+      mul-le-mul {n₂ = 1000000} {m₂ = 745} (leb-true (s .energy) 1000000 (k3 .0)) hh,
       leb-true (s .segments) 2000000000 (g2 .0),
-      mul-le-mul {n₂ = 1000000} {m₂ = 31} (leb-true (s .capacity) 1000000 (m3 .1)) hd,
+      mul-le-mul {n₂ = 1000000} {m₂ = 31} (leb-true (s .capacity) 1000000 (k3 .1)) hd,
       leb-true (s .invoices) 2000000000 (g2 .1),
     )
 

@@ -56,17 +56,17 @@ join : (p0 p1 p2 p3 p4 p5 h H M : ℤ) → p0 +ℤ (p1 +ℤ (p2 +ℤ (p3 +ℤ (p
 join p0 p1 p2 p3 p4 p5 h H M e f = omega (arith, ints)
 
 -- the costs of five services, over division parts p, management parts m and heads h
-five-sum : (p0 p1 p2 p3 p4 p5 m0 m1 m2 m3 h0 h1 h2 h3 h4 h5 : ℤ)
-    → p0 +ℤ (p1 +ℤ (p2 +ℤ (p3 +ℤ (p4 +ℤ (p5 +ℤ pos 0))))) ≡ h0 → m0 +ℤ (m1 +ℤ (m2 +ℤ (m3 +ℤ pos 0))) ≡ p4
-    → (p0 +ℤ m0 +ℤ h1) +ℤ ((p1 +ℤ m1 +ℤ h2) +ℤ ((p2 +ℤ m2 +ℤ h3) +ℤ ((p3 +ℤ m3 +ℤ h4) +ℤ (p5 +ℤ h5))))
+five-sum : (p0 p1 p2 p3 p4 p5 w0 w1 w2 w3 h0 h1 h2 h3 h4 h5 : ℤ)
+    → p0 +ℤ (p1 +ℤ (p2 +ℤ (p3 +ℤ (p4 +ℤ (p5 +ℤ pos 0))))) ≡ h0 → w0 +ℤ (w1 +ℤ (w2 +ℤ (w3 +ℤ pos 0))) ≡ p4
+    → (p0 +ℤ w0 +ℤ h1) +ℤ ((p1 +ℤ w1 +ℤ h2) +ℤ ((p2 +ℤ w2 +ℤ h3) +ℤ ((p3 +ℤ w3 +ℤ h4) +ℤ (p5 +ℤ h5))))
     ≡ h0 +ℤ (h1 +ℤ (h2 +ℤ (h3 +ℤ (h4 +ℤ (h5 +ℤ pos 0)))))
-five-sum p0 p1 p2 p3 p4 p5 m0 m1 m2 m3 h0 h1 h2 h3 h4 h5 e f =
+five-sum p0 p1 p2 p3 p4 p5 w0 w1 w2 w3 h0 h1 h2 h3 h4 h5 e f =
     let s5 : p5 +ℤ h5 ≡ p5 +ℤ (pos 0 +ℤ (h5 +ℤ pos 0)) = omega (arith, ints) in
-    let s4 = row-sum p3 m3 h4 p5 (pos 0) (h5 +ℤ pos 0) (p5 +ℤ h5) s5 in
-    let s3 = row-sum p2 m2 h3 (p3 +ℤ p5) (m3 +ℤ pos 0) (h4 +ℤ (h5 +ℤ pos 0)) _ s4 in
-    let s2 = row-sum p1 m1 h2 (p2 +ℤ (p3 +ℤ p5)) (m2 +ℤ (m3 +ℤ pos 0)) (h3 +ℤ (h4 +ℤ (h5 +ℤ pos 0))) _ s3 in
-    let s1 = row-sum p0 m0 h1 (p1 +ℤ (p2 +ℤ (p3 +ℤ p5))) (m1 +ℤ (m2 +ℤ (m3 +ℤ pos 0))) (h2 +ℤ (h3 +ℤ (h4 +ℤ (h5 +ℤ pos 0)))) _ s2 in
-    s1 ∙ join p0 p1 p2 p3 p4 p5 h0 (h1 +ℤ (h2 +ℤ (h3 +ℤ (h4 +ℤ (h5 +ℤ pos 0))))) (m0 +ℤ (m1 +ℤ (m2 +ℤ (m3 +ℤ pos 0)))) e f
+    let s4 = row-sum p3 w3 h4 p5 (pos 0) (h5 +ℤ pos 0) (p5 +ℤ h5) s5 in
+    let s3 = row-sum p2 w2 h3 (p3 +ℤ p5) (w3 +ℤ pos 0) (h4 +ℤ (h5 +ℤ pos 0)) _ s4 in
+    let s2 = row-sum p1 w1 h2 (p2 +ℤ (p3 +ℤ p5)) (w2 +ℤ (w3 +ℤ pos 0)) (h3 +ℤ (h4 +ℤ (h5 +ℤ pos 0))) _ s3 in
+    let s1 = row-sum p0 w0 h1 (p1 +ℤ (p2 +ℤ (p3 +ℤ p5))) (w1 +ℤ (w2 +ℤ (w3 +ℤ pos 0))) (h2 +ℤ (h3 +ℤ (h4 +ℤ (h5 +ℤ pos 0)))) _ s2 in
+    s1 ∙ join p0 p1 p2 p3 p4 p5 h0 (h1 +ℤ (h2 +ℤ (h3 +ℤ (h4 +ℤ (h5 +ℤ pos 0))))) (w0 +ℤ (w1 +ℤ (w2 +ℤ (w3 +ℤ pos 0)))) e f
 
 pub costs-sum : (division management split : List ℕ) (heads : List ℤ) → length division ≡ 6 → length management ≡ 4 → length heads ≡ 6
     → 0 < sum division → 0 < sum management → getD split 0 0 ≤ 1000 → getD split 1 0 ≤ 1000
