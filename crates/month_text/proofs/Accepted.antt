@@ -23,15 +23,15 @@ use Rattle.month_text.specs.Ranges.{each, naturalIn, amountIn, all, rowAt, out
 use Rattle.month_text.specs.Members.{memberOf, blank, memberLawful, memberAt, membersAt, placesAt}
 use Rattle.month_text.specs.Accepted.{EachTo, EachWithin, Rising, EachLawful, Placed}
 
-bind-some : {X Y : Type 0} (o : Option X) (k : X → Option Y) (v : Y) → bind o k ≡ Some v → (x : X) × (o ≡ Some x) × (k x ≡ Some v)
+pub bind-some : {X Y : Type 0} (o : Option X) (k : X → Option Y) (v : Y) → bind o k ≡ Some v → (x : X) × (o ≡ Some x) × (k x ≡ Some v)
 bind-some None k v e = let z : _≡_ {A = ℕ} 0 1 = cc in absurd (omega arith)
 bind-some (Some x) k v e = (x, refl, e)
 
-next-done : {S T : Type 0} (t : Told S) (k : S → Told T) (v : T) → next t k ≡ Told.done v → (x : S) × (t ≡ Told.done x) × (k x ≡ Told.done v)
+pub next-done : {S T : Type 0} (t : Told S) (k : S → Told T) (v : T) → next t k ≡ Told.done v → (x : S) × (t ≡ Told.done x) × (k x ≡ Told.done v)
 next-done (Told.done x) k v e = (x, refl, e)
 next-done (Told.refused n l p) k v e = let z : _≡_ {A = ℕ} 0 1 = cc in absurd (omega arith)
 
-test-done : {T : Type 0} (b : Bool) (w v : T) (n : ℕ) (l : Layer) (p : ℕ) → cond b (Told.done w) (Told.refused n l p) ≡ Told.done v → (b ≡ true) × (w ≡ v)
+pub test-done : {T : Type 0} (b : Bool) (w v : T) (n : ℕ) (l : Layer) (p : ℕ) → cond b (Told.done w) (Told.refused n l p) ≡ Told.done v → (b ≡ true) × (w ≡ v)
 test-done true w v n l p e = (refl, cc)
 test-done false w v n l p e = let z : _≡_ {A = ℕ} 0 1 = cc in absurd (omega arith)
 
@@ -68,7 +68,7 @@ cons-lawful : (m : Member) (ms : List Member) → lawful (m .facts) ≡ true →
 cons-lawful m ms h t zero = h
 cons-lawful m ms h t (suc k) = t k
 
-abbrev Kept : ℕ → ℕ → List Member → Type 0
+abbrev pub Kept : ℕ → ℕ → List Member → Type 0
 Kept count last ms = (length ms ≡ count) × Rising last ms × EachLawful ms
 
 cons-kept : (count last : ℕ) (m : Member) (ms : List Member) → memberLawful last m ≡ true → Kept count (m .account) ms → Kept (suc count) last (m ∷ ms)
@@ -77,7 +77,7 @@ cons-kept count last m ms h t =
     let b = and-parts (leb (m .account) 999999) (lawful (m .facts)) (a .1) in
     (ap suc (t .0), (ltb-true last (m .account) (a .0), leb-true (m .account) 999999 (b .0), t .1), cons-lawful m ms (b .1) (t .2))
 
-members-kept : (count line last : ℕ) (s : List ℕ) (v : List Member × List ℕ) → membersAt count line last s ≡ Told.done v → Kept count last (v .0)
+pub members-kept : (count line last : ℕ) (s : List ℕ) (v : List Member × List ℕ) → membersAt count line last s ≡ Told.done v → Kept count last (v .0)
 members-kept zero line last s v e =
     let n : ([], s) ≡ v = cc in
     subst (λ (w : List Member × List ℕ). Kept 0 last (w .0)) n (refl, tt, λ k. refl)

@@ -1,6 +1,9 @@
 pub mod Accepted
 pub mod Eachwise
 pub mod Fields
+pub mod OneSpelling
 pub mod Rows
 pub mod Spelled
 pub mod Steps
+pub mod Taken
+pub mod TakenRows

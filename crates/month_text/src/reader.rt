@@ -18,6 +18,7 @@ ghost use Rattle.refusal.specs.Answers.{answer, answerBy};
 ghost use Rattle.std.specs.Vec.{made};
 ghost use Rattle.month_text.specs.Accepted.{InRange, Weighed};
 ghost use Rattle.month_text.specs.Months.{ruleAt, sheetAt, monthAt, readMonth};
+ghost use Rattle.month_text.specs.OneSpelling.{AsSpelled, OneSpelling, LineCount};
 
 /// The longest text, in bytes.
 const LONGEST: usize = 16_384;
@@ -94,6 +95,9 @@ fn lines_of(s: &[u8]) -> Result<Month, Fault>
 pub fn read(text: &[u8]) -> Result<Month, Fault>
     ensures value { λ r. ⌜ answer r ≡ readMonth (now (text .entry)) ⌝ }
     ensures range { λ r. ⌜ made r (λ m. InRange m) ⌝ }
+    ensures spelled { λ _. ⌜ AsSpelled (now (text .entry)) ⌝ }
+    ensures unique { λ _. ⌜ OneSpelling (now (text .entry)) ⌝ }
+    ensures lines { λ _. ⌜ LineCount (now (text .entry)) ⌝ }
 {
     if text.len() > LONGEST {
         return Err(Layer::Text.refuses(Refusal::Layout));
