@@ -518,6 +518,48 @@ def the_refused_months():
                  cost=(-POOL, 0, 0, 0, 0, -3_882_352_942)))
 
 
+def refused_once(number, line, shows, month_text):
+    """The same, unless the text stands in the table already."""
+    if all(month_text != other for _, other, _ in MONTHS):
+        refused(number, line, shows, month_text)
+
+
+def the_damaged_lines():
+    """The same damages on each of the ten lines of the worked month."""
+    lines = WORKED_TEXT.splitlines()
+    last = len(lines)
+    for n, line in enumerate(lines, 1):
+        key, values = line.split(b"=")
+        first, _, rest = values.partition(b",")
+        rest = b"," + rest if rest else b""
+
+        def damaged(shows, by):
+            refused_once(1, n, f"line {n}: {shows}", worked((n, by)))
+
+        damaged("a longer key", b"x" + line)
+        damaged("a blank before the equals sign", key + b" =" + values)
+        damaged("a blank at the end", line + b" ")
+        damaged("a carriage return at the end", line + b"\r")
+        damaged("one value more", line + b",0")
+        damaged("no value", key + b"=")
+        without = b"".join(other + b"\n" for other in lines[:n - 1] + lines[n:])
+        refused_once(1, last if n == last - 1 else n, f"line {n}: left out",
+                     without)
+        if n < last - 1:
+            swapped = worked((n, lines[n]), (n + 1, line))
+            refused_once(1, n, f"line {n}: after the next line", swapped)
+        if n == 2:
+            continue
+        damaged("twelve digits", key + b"=100000000000" + rest)
+        damaged("a leading zero", key + b"=0" + first + rest)
+        damaged("zero as 00", key + b"=00" + rest)
+        damaged("zero as -0", key + b"=-0" + rest)
+        if n not in (6, 7):
+            damaged("a minus", key + b"=-" + first + rest)
+    refused(2, last, "the two user lines in falling order",
+            worked((last - 1, lines[-1]), (last, lines[-2])))
+
+
 # ---------------------------------------------------------------- writing
 
 def has_an_end(month_text):
@@ -560,6 +602,7 @@ def write_months(directory):
     MONTHS.clear()
     the_billed_months()
     the_refused_months()
+    the_damaged_lines()
     texts = [month_text for _, month_text, _ in MONTHS]
     assert len(set(texts)) == len(texts), "a month stands twice in the table"
     place = Path(directory)

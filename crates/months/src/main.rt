@@ -4,7 +4,7 @@ use std::fs;
 use std::io;
 
 /// The months are stored as 001.txt, 001.out, 002.txt and so on.
-const COUNT: u32 = 99;
+const COUNT: u32 = 217;
 
 /// Bills one month; says whether its answer is the stored one.
 fn agrees(rt: &LibcRuntime, number: u32) -> io::Result<bool> {
