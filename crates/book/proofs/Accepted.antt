@@ -1,12 +1,11 @@
 -- What an accepted correction is known to leave.
 use Prim.Native.Nat.{ℕ}
-use native.Mathlib.Omega.{arith}
-use mathlib.Core.Path.{_≡_, refl, sym, ap, _∙_}
+use mathlib.Core.Path.{_≡_, ap}
 use mathlib.Core.Bool.{Bool, true, false, cond, _||_}
 use lib.Dec.{ltb}
 use lib.IntN.{ℤ, pos, natAbs, _+ℤ_}
 use lib.Signed.{ltZ}
-use Rattle.refusal.specs.Answers.{Told, done, refused, next, bare}
+use Rattle.refusal.specs.Answers.{Told, done, refused, next}
 use Rattle.refusal.proofs.Apart.{done-refused}
 use Rattle.refusal.specs.declared.Layer.the-variants as layer
 use Rattle.book.specs.Correcting.{newUnitsRule, takenRule, correctRule}

@@ -1,12 +1,10 @@
 //! The tests of an ask and of a correction, alike for every book.
-ghost use Prim.Native.Nat.{ℕ, _≤_};
+ghost use Prim.Native.Nat.{_≤_};
 ghost use mathlib.Core.Path.{_≡_};
 ghost use mathlib.Core.Bool.{_||_};
-ghost use lib.Dec.{ltb};
-ghost use lib.IntN.{pos, natAbs, _+ℤ_};
 ghost use Rattle.std.specs.Vec.{made};
 ghost use Rattle.refusal.specs.Answers.{answer};
-ghost use Rattle.book.specs.Asking.{askRule, pairRule};
+ghost use Rattle.book.specs.Asking.{pairRule};
 ghost use Rattle.book.specs.Correcting.{newUnitsRule, sumRule};
 use crate::book::Book;
 use refusal::Fault;

@@ -1,13 +1,13 @@
 -- No units are above 2,000,000,000.
 use Prim.Native.Nat.{ℕ, zero, suc, _+_, _-_, _≤_, _<_}
 use native.Mathlib.Omega.{arith}
-use mathlib.Core.Path.{_≡_, refl, sym, ap, _∙_}
+use mathlib.Core.Path.{_≡_, refl, ap, _∙_}
 use mathlib.Core.List.{List, [], _∷_, _++_}
 use mathlib.Core.Logic.{⊎-elim}
-use lib.ListN.{length, getD, set, take, drop, replicate}
+use lib.ListN.{length, getD, drop, replicate}
 use Rattle.std.specs.declared.option.Option.{Option}
 use Rattle.std.specs.declared.option.Option.the-variants.{Some, None}
-use Rattle.std.proofs.shelf.Lists.{getD-replicate, getD-past, getD-append-left, getD-append-right, getD-drop, length-replicate, length-append, length-drop, take-at, drop-replicate}
+use Rattle.std.proofs.shelf.Lists.{getD-replicate, getD-past, getD-append-left, getD-append-right, getD-drop, length-replicate, length-append, length-drop}
 use Rattle.std.proofs.shelf.Tests.{cases-lt}
 use Rattle.refusal.specs.Answers.{Told, done, refused, next}
 use Rattle.refusal.proofs.Apart.{refused-done}

@@ -1,6 +1,6 @@
 -- Units that are given as they are.
 use Prim.Native.Nat.{ℕ}
-use mathlib.Core.Bool.{Bool, cond}
+use mathlib.Core.Bool.{cond}
 use mathlib.Core.List.{List}
 use lib.Dec.{leb}
 use Rattle.std.specs.declared.option.Option.{Option}

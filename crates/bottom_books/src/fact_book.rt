@@ -1,7 +1,6 @@
 //! A book that is read off the members' facts.
 ghost use Prim.Native.Nat.{ℕ};
 ghost use mathlib.Core.Path.{_≡_};
-ghost use mathlib.Core.List.{List};
 ghost use lib.ListN.{length, take};
 ghost use Rattle.std.specs.Results.{Cases};
 ghost use Rattle.refusal.specs.Answers.{answer, bare, done};

@@ -1,7 +1,7 @@
 //! Units held member by member: what all three books have in them.
 mod calls;
 
-ghost use Prim.Native.Nat.{ℕ, _≤_};
+ghost use Prim.Native.Nat.{_≤_};
 ghost use mathlib.Core.Path.{_≡_};
 ghost use lib.ListN.{length};
 ghost use Rattle.bottom_books.specs.Tables.{Small};

@@ -6,16 +6,16 @@ use mathlib.Core.Path.{_≡_, refl, sym, ap, subst, _∙_}
 use mathlib.Core.List.{List, [], _∷_, _++_}
 use lib.ListN.{length, getD, set, take, drop}
 use Rattle.std.proofs.shelf.Lists.{take-more-set, drop-more, append-assoc, drop-all, take-all, append-nil}
-use borrow.Author.Differences.{ints, up, down, sum-is, product-is}
+use borrow.Author.Differences.{ints, up, down}
 use mir.Syntax.{w64, w128}
 use mir.Val.{SFits}
-use lib.IntN.{ℤ, pos, negsuc, _+ℤ_, _-ℤ_, _*ℤ_, negℤ}
+use lib.IntN.{ℤ, pos, _+ℤ_, _-ℤ_, _*ℤ_}
 use Rattle.std.specs.shelf.Lists.{sum}
 use Rattle.std.proofs.shelf.Sums.{sumBy-cons}
-use Rattle.cents.specs.Rounding.{roundDown, Inside}
+use Rattle.cents.specs.Rounding.{Inside}
 use Rattle.cents.specs.Cutting.{taken, partsFrom, cut, sumZ}
 use Rattle.cents.proofs.Products.{mul-plus, mul-minus}
-use Rattle.cents.proofs.Quotients.{Left, inside, down-left, down-unique}
+use Rattle.cents.proofs.Quotients.{inside, down-left, down-unique}
 
 difference : (a f g : ℤ) (T x u r s : ℕ) → a *ℤ pos x ≡ (pos T *ℤ f) +ℤ pos r → a *ℤ pos (x + u) ≡ (pos T *ℤ g) +ℤ pos s → (pos T *ℤ (g -ℤ f)) +ℤ pos s ≡ (a *ℤ pos u) +ℤ pos r
 difference a f g T x u r s p q =

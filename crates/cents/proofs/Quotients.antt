@@ -1,12 +1,12 @@
 -- A quotient rounded down, by its remainder.
-use Prim.Native.Nat.{ℕ, zero, suc, _+_, _-_, _*_, _/_, _%_, _≤_, _<_}
+use Prim.Native.Nat.{ℕ, zero, suc, _+_, _-_, _*_, _%_, _≤_, _<_}
 use native.Mathlib.Nat.{mul-le-mul-left}
 use native.Mathlib.Omega.{arith}
 use mathlib.Core.Path.{_≡_, refl, sym, ap, _∙_}
-use borrow.Author.Differences.{ints, up, down, sum-is, product-is}
+use borrow.Author.Differences.{ints, down}
 use mathlib.Core.Logic.{⊎-elim}
 use Rattle.std.proofs.shelf.Tests.{cases-lt}
-use lib.IntN.{ℤ, pos, negsuc, _+ℤ_, _-ℤ_, _*ℤ_, negℤ}
+use lib.IntN.{ℤ, pos, negsuc, _+ℤ_, _*ℤ_}
 use Rattle.std.specs.Numbers.{divEuclid}
 use Rattle.cents.specs.Rounding.{roundDown, roundNearest, Largest, Inside}
 use Rattle.cents.proofs.Products.{mul-plus}

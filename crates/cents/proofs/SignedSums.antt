@@ -1,7 +1,7 @@
 -- Sums of signed amounts.
 use Prim.Native.Nat.{ℕ, _+_, _<_}
 use native.Mathlib.Omega.{arith}
-use mathlib.Core.Path.{_≡_, refl, ap, _∙_}
+use mathlib.Core.Path.{_≡_, ap, _∙_}
 use mathlib.Core.List.{List, [], _∷_, _++_}
 use borrow.Author.Differences.{ints}
 use lib.IntN.{ℤ, pos, _+ℤ_}

@@ -3,7 +3,6 @@ use crate::charges::ComponentCharge;
 use crate::charges::MemberCharge;
 use std::alloc::AllocError;
 use std::alloc::Global;
-ghost use Prim.Native.Nat.{ℕ};
 ghost use mathlib.Core.Path.{_≡_};
 ghost use Rattle.std.specs.Vec.{made};
 ghost use Rattle.std.specs.Of.String.{string-bytes};

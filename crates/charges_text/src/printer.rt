@@ -6,7 +6,6 @@ use crate::lines::member_line;
 use crate::lines::month_line;
 use std::alloc::AllocError;
 use std::alloc::Global;
-ghost use Prim.Native.Nat.{ℕ};
 ghost use mathlib.Core.Path.{_≡_};
 ghost use Rattle.std.specs.Vec.{made};
 ghost use Rattle.std.specs.Of.String.{string-bytes};

@@ -4,7 +4,6 @@ use refusal::Layer;
 use refusal::Refusal;
 use std::alloc::AllocError;
 use std::alloc::Global;
-ghost use Prim.Native.Nat.{ℕ};
 ghost use mathlib.Core.Path.{_≡_};
 ghost use Rattle.std.specs.Vec.{made};
 ghost use Rattle.std.specs.Of.String.{string-bytes};

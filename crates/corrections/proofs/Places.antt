@@ -2,18 +2,15 @@
 use Prim.Native.Nat.{ℕ, zero, suc, _+_, _≤_, _<_, max}
 use native.Mathlib.Omega.{arith}
 use mathlib.Core.Path.{_≡_, refl, sym, ap, _∙_}
-use mathlib.Core.Bool.{Bool, true, false, cond, _||_, _&&_}
+use mathlib.Core.Bool.{Bool, true, false, cond}
 use mathlib.Core.List.{List, [], _∷_, _++_}
 use mathlib.Core.Logic.{⊎-elim}
 use lib.Dec.{leb, ltb, eqb}
 use lib.ListN.{length, getD, set, take, drop}
-use Rattle.std.specs.declared.option.Option.{Option}
 use Rattle.std.specs.declared.option.Option.the-variants.{Some, None}
 use Rattle.std.specs.Options.{isSome, valueOr}
-use Rattle.std.proofs.shelf.Lists.{getD-take, drop-more, drop-all, take-all, take-take, take-more-set, set-split, length-take-le, length-append, length-take}
+use Rattle.std.proofs.shelf.Lists.{getD-take, drop-more, drop-all, take-take, take-more-set, set-split, length-take-le}
 use Rattle.std.proofs.shelf.Tests.{cases-bool, and-parts, eqb-true, cond-true, cond-false, lt-ltb, le-ltb, or-left, or-right, or-from, cases-lt, and-from, le-leb, eq-eqb, both-ways, leb-true}
-use Rattle.cents.specs.Passes.{allPass}
-use Rattle.cents.proofs.Passes.{pass-append}
 use Rattle.book.specs.Correcting.{samePair}
 use Rattle.corrections.specs.declared.fixes.Fix.{Fix}
 use Rattle.corrections.specs.Fixes.{fixesSmall, isFor, placeOf, seek, takesPair}

@@ -1,7 +1,7 @@
 //! The corrected pairs of kind and member, each with its corrected units; at most 64.
 mod calls;
 
-ghost use Prim.Native.Nat.{ℕ, _≤_};
+ghost use Prim.Native.Nat.{_≤_};
 ghost use mathlib.Core.Path.{_≡_};
 ghost use mathlib.Core.Bool.{true};
 ghost use lib.ListN.{length, take};

@@ -1,6 +1,5 @@
 //! The layer of corrections over a book. It keeps each corrected pair's units and means these, and
 //! the book's units for every other pair; the book below stays as it is.
-ghost use Prim.Native.Nat.{ℕ};
 ghost use mathlib.Core.Path.{_≡_};
 ghost use mathlib.Core.List.{[]};
 ghost use lib.ListN.{take};

@@ -1,5 +1,4 @@
 //! A book that is one of two books, so that one list may hold books of several types.
-ghost use Prim.Native.Nat.{ℕ};
 ghost use Rattle.either_book.specs.Either.{either};
 use book::book::Book;
 use refusal::Fault;

@@ -4,20 +4,20 @@ use native.Mathlib.Nat.{mul-le-mul}
 use native.Mathlib.Omega.{arith}
 use mathlib.Core.Path.{_≡_, refl, sym, ap, _∙_}
 use mathlib.Core.Bool.{Bool, true, cond}
-use mathlib.Core.List.{List, [], _∷_, _++_}
+use mathlib.Core.List.{List, [], _++_}
 use borrow.Author.Differences.{ints}
 use lib.Dec.{leb, ltb, eqb}
-use lib.IntN.{ℤ, pos, negsuc, natAbs, negℤ, _+ℤ_, _-ℤ_, _*ℤ_}
+use lib.IntN.{ℤ, pos, negsuc, natAbs, negℤ, _*ℤ_}
 use lib.ListN.{length, set, take}
 use Rattle.std.proofs.shelf.Lists.{take-more-set, take-all, append-assoc, append-nil}
 use Rattle.std.proofs.shelf.Tests.{and-parts, leb-true, lt-ltb, eq-eqb, cond-true}
 use Rattle.refusal.specs.Answers.{done, refused, next}
 use Rattle.refusal.specs.declared.Layer.the-variants as layer
 use Rattle.book.specs.Asking.{askRule}
-use Rattle.cents.specs.Rounding.{Inside, roundNearest}
+use Rattle.cents.specs.Rounding.{Inside}
 use Rattle.cents.specs.Cutting.{sumZ}
 use Rattle.cents.proofs.Quotients.{nearest-inside}
-use Rattle.ferc.specs.Rates.{costLawful, yearCost}
+use Rattle.ferc.specs.Rates.{costLawful}
 use Rattle.ferc.specs.Years.{chargeOf, charges, monthRule}
 
 pub cost-each : (a b c : ℤ) → costLawful a b c ≡ true → (natAbs a ≤ 40000000000) × (natAbs b ≤ 40000000000) × (natAbs c ≤ 40000000000)

@@ -3,10 +3,10 @@ use Prim.Native.Nat.{ℕ, _≤_}
 use lib.Dec.{leb}
 use lib.ListN.{take}
 use Rattle.std.proofs.shelf.Tests.{cond-true, le-leb}
-use mathlib.Core.Path.{_≡_, refl, sym, ap, _∙_}
+use mathlib.Core.Path.{_≡_, sym, ap, _∙_}
 use mathlib.Core.List.{List}
 use lib.IntN.{ℤ}
-use Rattle.refusal.specs.Answers.{Told, done, refused, next}
+use Rattle.refusal.specs.Answers.{Told, done, next}
 use Rattle.tariff.specs.Heads.{bookRule}
 use Rattle.tariff.specs.Costs.{costs}
 use Rattle.month_voucher.specs.Costs.{costRule}

@@ -7,7 +7,6 @@ use mathlib.Core.List.{List, [], _∷_, _++_}
 use lib.IntN.{ℤ}
 use lib.ListN.{length, getD, set, take, drop}
 use Rattle.std.specs.declared.option.Option.{Option}
-use Rattle.std.specs.declared.option.Option.the-variants.{Some, None}
 use Rattle.std.proofs.shelf.Lists.{take-more-set, take-all, drop-more, drop-all, append-assoc, append-nil, map-more, getD-take, length-take-le}
 use Rattle.refusal.specs.Answers.{Told, done, refused}
 use Rattle.refusal.proofs.Apart.{refused-done}

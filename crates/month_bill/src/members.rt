@@ -1,5 +1,4 @@
 //! The members' side of a month: their units, and what they pay.
-ghost use Prim.Native.Nat.{ℕ};
 ghost use mathlib.Core.Path.{_≡_};
 ghost use lib.ListN.{length, take};
 ghost use Rattle.std.specs.Vec.{made};

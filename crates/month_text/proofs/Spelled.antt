@@ -1,17 +1,15 @@
 -- The numbers that are read are those that are written in decimal digits.
-use Prim.Native.Nat.{ℕ, zero, suc, _+_, _-_, _*_, _/_, _%_, _<_, _≤_}
+use Prim.Native.Nat.{ℕ, _+_, _-_, _*_, _/_, _%_, _<_, _≤_}
 use native.Mathlib.Omega.{arith}
-use lib.Dec.{eqb, leb, ltb}
-use lib.ListN.{length, getD}
+use lib.Dec.{leb, ltb}
+use lib.ListN.{getD}
 use mathlib.Core.Bool.{Bool, true, false, cond, _&&_}
 use mathlib.Core.List.{List, [], _∷_, _++_, append-assoc}
-use mathlib.Core.Logic.{_⊎_, inl, inr}
 use mathlib.Core.Path.{_≡_, refl, sym, ap, _∙_, subst}
-use Rattle.std.specs.declared.option.Option.{Option}
 use Rattle.std.specs.declared.option.Option.the-variants.{Some, None}
 use Rattle.std.specs.Written.{decimal}
 use Rattle.std.proofs.shelf.Decimals.{decimal-digit, decimal-step, decimal-by-steps}
-use Rattle.std.proofs.shelf.Tests.{leb-true, ltb-true, and-parts, cases-bool}
+use Rattle.std.proofs.shelf.Tests.{leb-true, ltb-true, and-parts}
 use Rattle.std.proofs.shelf.Ways.{tells}
 use Rattle.month_text.specs.Numbers.{isDigit, digitsOn, numberAt}
 use Rattle.month_text.specs.Spelling.{Spelled, ReadAsSpelled}

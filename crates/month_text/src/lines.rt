@@ -1,6 +1,5 @@
 //! Lines of a text: a key, `=`, numbers between commas, and byte 10.
 use crate::numbers::integer;
-ghost use Prim.Native.Nat.{ℕ};
 ghost use mathlib.Core.Path.{_≡_};
 ghost use mathlib.Core.List.{[], _∷_};
 ghost use Rattle.std.specs.Options.{mapped};

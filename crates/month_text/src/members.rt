@@ -5,7 +5,7 @@ use refusal::Fault;
 use refusal::Layer;
 use refusal::Refusal;
 use units::facts::Facts;
-ghost use Prim.Native.Nat.{ℕ, _≤_};
+ghost use Prim.Native.Nat.{_≤_};
 ghost use mathlib.Core.Path.{_≡_};
 ghost use Rattle.refusal.specs.Answers.{answerBy};
 ghost use Rattle.std.specs.Vec.{made};

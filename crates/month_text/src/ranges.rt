@@ -4,7 +4,7 @@ use cents::weights::adds_up;
 use refusal::Fault;
 use refusal::Layer;
 use refusal::Refusal;
-ghost use Prim.Native.Nat.{ℕ, _<_, _≤_, _^_};
+ghost use Prim.Native.Nat.{_<_, _≤_, _^_};
 ghost use mathlib.Core.Path.{_≡_};
 ghost use Rattle.std.specs.Slices.{found};
 ghost use Rattle.std.specs.Vec.{made};

@@ -12,7 +12,6 @@ use crate::ranges::weights;
 use refusal::Fault;
 use refusal::Layer;
 use refusal::Refusal;
-ghost use Prim.Native.Nat.{ℕ};
 ghost use mathlib.Core.Path.{_≡_};
 ghost use Rattle.refusal.specs.Answers.{answer, answerBy};
 ghost use Rattle.std.specs.Vec.{made};

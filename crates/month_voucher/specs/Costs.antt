@@ -1,5 +1,5 @@
 -- A month's costs on one voucher.
-use Prim.Native.Nat.{ℕ, suc, _+_}
+use Prim.Native.Nat.{ℕ, _+_}
 use mathlib.Core.List.{List, [], _∷_}
 use lib.IntN.{ℤ}
 use Rattle.refusal.specs.Answers.{Told, done, next}

@@ -1,5 +1,4 @@
 //! A month's costs on one voucher: opened with the control total, one line a head, balanced.
-ghost use Prim.Native.Nat.{ℕ};
 ghost use mathlib.Core.Path.{_≡_};
 ghost use Rattle.std.specs.Vec.{made};
 ghost use Rattle.cents.specs.Cutting.{sumZ};

@@ -1,5 +1,4 @@
 //! The one fault type of the whole repository: which refusal, which layer's check failed, and where.
-ghost use Prim.Native.Nat.{ℕ};
 ghost use mathlib.Core.Path.{_≡_};
 ghost use Rattle.refusal.specs.Answers.{number};
 

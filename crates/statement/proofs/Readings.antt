@@ -1,14 +1,13 @@
 -- A book read member by member.
-use Prim.Native.Nat.{ℕ, zero, suc, _+_, _-_, _≤_, _<_}
+use Prim.Native.Nat.{ℕ, suc, _+_, _-_, _≤_, _<_}
 use native.Mathlib.Omega.{arith}
-use mathlib.Core.Path.{_≡_, refl, sym, ap, _∙_}
-use mathlib.Core.Bool.{true, cond}
-use mathlib.Core.List.{List, [], _∷_, _++_}
+use mathlib.Core.Path.{_≡_, sym, ap, _∙_}
+use mathlib.Core.List.{List, [], _++_}
 use lib.Dec.{ltb}
-use lib.ListN.{length, getD, set, take}
+use lib.ListN.{length, set, take}
 use Rattle.std.proofs.shelf.Lists.{take-more-set, take-all, append-assoc, append-nil}
 use Rattle.std.proofs.shelf.Tests.{cond-true, lt-ltb}
-use Rattle.refusal.specs.Answers.{Told, done, refused}
+use Rattle.refusal.specs.Answers.{done, refused}
 use Rattle.refusal.specs.declared.Layer.{Layer}
 use Rattle.refusal.proofs.Apart.{refused-done}
 use Rattle.statement.specs.Readings.{bookRow, bookRows, rowAsked}

@@ -1,13 +1,13 @@
 //! A book's units, asked for once.
-ghost use Prim.Native.Nat.{ℕ, _+_, _≤_, _<_};
+ghost use Prim.Native.Nat.{_<_};
 ghost use mathlib.Core.Path.{_≡_};
 ghost use mathlib.Core.Bool.{cond};
-ghost use lib.Dec.{eqb, ltb};
+ghost use lib.Dec.{eqb};
 ghost use lib.ListN.{length};
 ghost use Rattle.std.specs.Results.{Cases};
 ghost use Rattle.refusal.specs.Answers.{answer, refused, done};
 ghost use Rattle.refusal.specs.declared.Layer.the-variants.{Ledger};
-ghost use Rattle.statement.specs.Readings.{bookRow, bookRows, rowAsked};
+ghost use Rattle.statement.specs.Readings.{bookRows, rowAsked};
 use book::book::Book;
 use refusal::Fault;
 use refusal::Layer;

@@ -1,5 +1,5 @@
 -- The parts of a cost stay in range, and the thirteen component costs add up to the six heads.
-use Prim.Native.Nat.{ℕ, zero, suc, _+_, _-_, _≤_, _<_}
+use Prim.Native.Nat.{ℕ, _+_, _-_, _≤_, _<_}
 use native.Mathlib.Omega.{arith}
 use mathlib.Core.Path.{_≡_, refl, sym, ap, _∙_}
 use mathlib.Core.List.{List, [], _∷_, _++_}
@@ -7,7 +7,6 @@ use borrow.Author.Differences.{ints}
 use lib.IntN.{ℤ, pos, negsuc, natAbs, _+ℤ_}
 use lib.ListN.{length, getD}
 use Rattle.std.specs.shelf.Lists.{sum}
-use Rattle.std.proofs.shelf.Sums.{sumBy-cons}
 use Rattle.cents.specs.Rounding.{Inside}
 use Rattle.cents.specs.Cutting.{cut, sumZ}
 use Rattle.cents.proofs.Tabulated.{tabulated}

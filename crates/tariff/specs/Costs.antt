@@ -1,7 +1,7 @@
 -- From six heads of cost to the thirteen component costs.
 use Prim.Native.Nat.{ℕ, _+_, _-_}
 use mathlib.Core.List.{List, [], _∷_, _++_}
-use lib.IntN.{ℤ, pos, _+ℤ_}
+use lib.IntN.{ℤ, _+ℤ_}
 use lib.ListN.{getD}
 use Rattle.cents.specs.Cutting.{cut}
 use Rattle.tariff.specs.Heads.{at}

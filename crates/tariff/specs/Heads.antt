@@ -7,7 +7,6 @@ use lib.IntN.{ℤ, pos, natAbs, _+ℤ_}
 use lib.ListN.{getD}
 use Rattle.cents.specs.Passes.{allPass}
 use Rattle.refusal.specs.Answers.{Told, done, refused}
-use Rattle.refusal.specs.declared.Layer.{Layer}
 use Rattle.refusal.specs.declared.Layer.the-variants as layer
 
 abbrev pub at : List ℤ → ℕ → ℤ

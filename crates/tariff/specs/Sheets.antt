@@ -6,7 +6,6 @@ use lib.Dec.{leb, eqb}
 use Rattle.std.specs.shelf.Lists.{sum}
 use Rattle.cents.specs.Passes.{allPass}
 use Rattle.refusal.specs.Answers.{Told, done, refused}
-use Rattle.refusal.specs.declared.Layer.{Layer}
 use Rattle.refusal.specs.declared.Layer.the-variants as layer
 
 -- every number is at most 1,000

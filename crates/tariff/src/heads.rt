@@ -1,6 +1,5 @@
 //! The six heads of cost that wait for the open month's bill: division cost, the non-divisional
 //! cost of 9-1 to 9-4, and the non-divisional settlement cost.
-ghost use Prim.Native.Nat.{ℕ, _≤_};
 ghost use mathlib.Core.Path.{_≡_};
 ghost use mathlib.Core.List.{[], _∷_};
 ghost use lib.ListN.{length};

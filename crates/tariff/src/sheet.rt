@@ -1,5 +1,4 @@
 //! A tariff sheet: how division cost, management cost and the two split schedules are divided.
-ghost use Prim.Native.Nat.{ℕ, _≤_};
 ghost use mathlib.Core.Path.{_≡_};
 ghost use mathlib.Core.Bool.{true};
 ghost use mathlib.Core.List.{[], _∷_};

@@ -1,5 +1,4 @@
 //! A member's eleven facts of a month, in the order of a `user` line after the account.
-ghost use Prim.Native.Nat.{ℕ};
 ghost use mathlib.Core.Path.{_≡_};
 ghost use Rattle.units.specs.Kinds.{lawful, energyLawful, bidsLawful, capacityLawful, unitsOf, factsOf};
 

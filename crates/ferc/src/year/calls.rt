@@ -1,8 +1,8 @@
 //! Making a year, and billing its months.
-ghost use Prim.Native.Nat.{ℕ, _+_, _*_, _≤_};
+ghost use Prim.Native.Nat.{_+_, _*_, _≤_};
 ghost use mathlib.Core.Path.{_≡_};
 ghost use mathlib.Core.List.{List, [], _∷_};
-ghost use lib.IntN.{ℤ, pos, natAbs, _+ℤ_, _*ℤ_};
+ghost use lib.IntN.{ℤ, pos, natAbs, _+ℤ_};
 ghost use lib.ListN.{length};
 ghost use Rattle.std.specs.Results.{Cases};
 ghost use Rattle.refusal.specs.Answers.{answer, bare, done};

@@ -1,11 +1,10 @@
-use borrow.Author.Needs.{needs}
 use native.Mathlib.Omega.{arith}
-use mathlib.Core.Path.{_≡_, sym, ap, _∙_}
+use mathlib.Core.Path.{sym, ap, _∙_}
 use lib.IntN.{ℤ}
 use mir.Syntax.{w64}
 use mir.Val.{toZ, ofZ}
 use Rattle.std.proofs.shelf.Signed.{toZ-ofZ}
-use Rattle.month_voucher.specs.Costs.{fillRule, costRule}
+use Rattle.month_voucher.specs.Costs.{fillRule}
 use Rattle.month_voucher.proofs.Filled.{cost-rule, cost-opened, cost-full, unbare}
 use Rattle.month_voucher.proofs.cost_voucher.Needs as need
 

@@ -1,9 +1,8 @@
-use Prim.Native.Nat.{_*_, _≤_}
 use mathlib.Core.Path.{_≡_}
 use mathlib.Core.List.{_++_}
 use lib.ListN.{length, take, drop}
 use Rattle.std.specs.shelf.Lists.{sum}
-use Rattle.cents.specs.Cutting.{taken, partsFrom, cut}
+use Rattle.cents.specs.Cutting.{partsFrom, cut}
 use Rattle.cents.proofs.cutting.cut.Given as given
 
 -- the parts so far, followed by those of the weights that are left, are the cut

@@ -1,8 +1,8 @@
-use Prim.Native.Nat.{ℕ, _<_, _≤_, _*_, _^_, min}
+use Prim.Native.Nat.{ℕ, _<_, _*_, _^_, min}
 use native.Mathlib.Omega.{arith}
-use mathlib.Core.Path.{_≡_, refl, sym, ap, subst, _∙_}
-use borrow.Author.Differences.{ints, up, down}
-use lib.IntN.{ℤ, pos, _+ℤ_, _*ℤ_}
+use mathlib.Core.Path.{_≡_, sym, ap, subst, _∙_}
+use borrow.Author.Differences.{ints, down}
+use lib.IntN.{ℤ, pos, _*ℤ_}
 use mir.Syntax.{w64, w128}
 use mir.Val.{toZ, ofZ, SFits}
 use Rattle.std.proofs.shelf.Signed.{toZ-ofZ}

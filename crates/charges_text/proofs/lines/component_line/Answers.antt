@@ -1,7 +1,5 @@
-use lib.IntN.{ℤ}
-use mathlib.Core.Path.{_≡_}
 use mir.Syntax.{w64}
-use mir.Val.{SFits, toZ, ofZ}
+use mir.Val.{SFits}
 use borrow.Author.Needs.{needs}
 use Rattle.std.proofs.shelf.Signed.{toZ-ofZ}
 use Rattle.charges_text.proofs.lines.component_line.Needs as need

@@ -3,8 +3,8 @@ use native.Mathlib.Omega.{arith}
 use lib.IntN.{pos, _+ℤ_}
 use lib.ListN.{length, getD}
 use mathlib.Core.Path.{_≡_, ap, _∙_}
-use mir.Syntax.{w64, w128}
-use mir.Val.{SFits, toZ, ofZ}
+use mir.Syntax.{w64}
+use mir.Val.{SFits}
 use borrow.Author.Needs.{needs}
 use Rattle.std.proofs.shelf.Lists.{take-all}
 use Rattle.std.proofs.shelf.Signed.{ints, toZ-ofZ}

@@ -1,5 +1,5 @@
 use Prim.Native.Nat.{_*_, _^_, _≤_}
-use lib.IntN.{pos, natAbs, _+ℤ_}
+use lib.IntN.{natAbs}
 use lib.ListN.{take}
 use mathlib.Core.Path.{_≡_}
 use Rattle.charges_text.specs.Printed.{total}

@@ -1,5 +1,4 @@
 use borrow.Author.Needs.{needs}
-use mathlib.Core.Path.{sym}
 use Rattle.charges_text.proofs.refusals.refusal_text.Needs as need
 
 pub returns : need.returns

@@ -4,7 +4,6 @@ use mathlib.Core.List.{List}
 use lib.IntN.{ℤ}
 use lib.ListN.{getD}
 use Rattle.month_text.specs.Members.{blank}
-use Rattle.charges_text.specs.declared.charges.MemberCharge.{MemberCharge}
 use Rattle.month_bill.specs.Members.{memberRows}
 use Rattle.month_bill.proofs.Listed.{rows-more, rows-end}
 use Rattle.month_bill.proofs.members.member_rows.Needs as need

@@ -1,6 +1,5 @@
-use borrow.Author.Needs.{needs}
 use native.Mathlib.Omega.{arith}
-use mathlib.Core.Path.{sym, _∙_}
+use mathlib.Core.Path.{sym}
 use borrow.Author.Tests.{ltb-false, ltb-true}
 use Rattle.month_text.proofs.Steps.{past-none, past-step, past-end, past-other}
 use Rattle.month_text.proofs.lines.+after_word.Needs as need

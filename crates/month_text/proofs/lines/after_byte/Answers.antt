@@ -1,5 +1,5 @@
 use native.Mathlib.Omega.{arith}
-use borrow.Author.Tests.{ltb-false, ltb-true}
+use borrow.Author.Tests.{ltb-false}
 use Rattle.month_text.proofs.Steps.{past-byte}
 use Rattle.month_text.proofs.lines.after_byte.Needs as need
 use mathlib.Core.Path.{sym}

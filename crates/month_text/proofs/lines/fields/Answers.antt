@@ -1,18 +1,16 @@
-use Prim.Native.Nat.{_-_, _+_, suc, _≤_, _<_}
-use mathlib.Core.Path.{_≡_, sym, ap, _∙_}
+use Prim.Native.Nat.{_-_, _+_, suc, _<_}
+use mathlib.Core.Path.{_≡_, sym, _∙_}
 use native.Mathlib.Omega.{arith}
-use lib.ListN.{length, set, take, length-replicate, length-set}
-use lib.Dec.{eqb}
+use lib.ListN.{length, take, length-replicate, length-set}
 use lib.IntN.{pos}
-use mathlib.Core.Bool.{cond}
 use mir.Syntax.{w64}
 use mir.Val.{SFits}
 use borrow.Author.Needs.{needs}
 use Rattle.std.proofs.shelf.Lists.{take-all, take-more-set}
 use Rattle.std.proofs.shelf.Signed.{toZ-ofZ}
 use Rattle.std.proofs.shelf.Ways.{tells}
-use Rattle.month_text.specs.Lines.{stop, fieldsAt}
-use Rattle.month_text.proofs.Fields.{onto, fields-start, fields-more, fields-no-number, fields-no-stop, fields-end}
+use Rattle.month_text.specs.Lines.{stop}
+use Rattle.month_text.proofs.Fields.{fields-start, fields-more, fields-no-number, fields-no-stop, fields-end}
 use Rattle.month_text.proofs.lines.fields.Needs as need
 use Rattle.month_text.proofs.lines.fields.Needs.{then-i, else-i}
 

@@ -1,6 +1,6 @@
 use borrow.Author.Needs.{needs}
 use native.Mathlib.Omega.{arith}
-use mathlib.Core.Path.{ap, _∙_}
+use mathlib.Core.Path.{ap}
 use lib.IntN.{pos, natAbs}
 use lib.ListN.{getD}
 use mir.Syntax.{w64}

@@ -1,5 +1,4 @@
 use native.Mathlib.Omega.{arith}
-use mathlib.Core.Path.{_∙_}
 use Rattle.statement.specs.Checks.{totalsRule}
 use Rattle.statement.proofs.Columns.{totals-stop, totals-more}
 use Rattle.statement.proofs.checks.check_totals.Needs as need

@@ -4,7 +4,6 @@ use mathlib.Core.Path.{_∙_}
 use lib.IntN.{pos}
 use lib.ListN.{getD}
 use mir.Syntax.{w64}
-use mir.Val.{SFits}
 use Rattle.std.proofs.shelf.Lists.{length-set}
 use Rattle.std.proofs.shelf.Signed.{toZ-ofZ}
 use Rattle.tariff.proofs.Sums.{sums-stop, sums-more, sums-end}

@@ -1,7 +1,5 @@
-use Prim.Native.Nat.{_≤_}
 use native.Mathlib.Omega.{arith}
 use mathlib.Core.Path.{_≡_, sym, ap, _∙_}
-use mathlib.Core.List.{List}
 use lib.ListN.{length}
 use Rattle.std.proofs.shelf.Lists.{take-at}
 use Rattle.refusal.specs.Answers.{done}

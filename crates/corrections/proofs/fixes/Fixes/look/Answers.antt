@@ -1,10 +1,9 @@
 use native.Mathlib.Omega.{arith}
-use Prim.Native.Nat.{ℕ, _≤_, _<_}
-use mathlib.Core.Path.{_≡_, sym, ap, _∙_}
+use Prim.Native.Nat.{ℕ, _≤_}
+use mathlib.Core.Path.{sym, ap, _∙_}
 use lib.ListN.{length, getD, take}
 use Rattle.std.specs.declared.option.Option.the-variants.{Some}
 use Rattle.std.proofs.shelf.Lists.{getD-take}
-use Rattle.corrections.specs.Fixes.{placeOf}
 use Rattle.corrections.proofs.Places.{blank, seek-found, seek-none, used-length}
 use Rattle.corrections.proofs.fixes.Fixes.look.Needs as need
 

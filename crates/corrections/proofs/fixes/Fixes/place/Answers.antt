@@ -1,6 +1,5 @@
 use native.Mathlib.Omega.{arith}
 use Prim.Native.Nat.{_≤_}
-use mathlib.Core.Path.{_∙_}
 use mathlib.Core.Bool.{true, false}
 use lib.ListN.{length, take}
 use Rattle.corrections.proofs.Places.{blank, place-here, place-more, place-none, used-length, used-at}
