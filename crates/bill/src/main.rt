@@ -1,4 +1,6 @@
 //! Reads a month's text on standard input and prints its charges, or the line of its refusal.
+#![tactic(auto)]
+
 ghost use Rattle.std.specs.Prelude.{◌≤◌, length, IfOk};
 
 use month_bill::answer::answer;

@@ -1,4 +1,6 @@
 //! Books at their edges: what they answer, printed line by line.
+#![tactic(auto)]
+
 use book::book::{Book, Correctable};
 use bottom_books::fact_book::FactBook;
 use bottom_books::standing::Standing;

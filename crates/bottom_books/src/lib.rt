@@ -1,4 +1,6 @@
 //! The three books that hold units themselves: from facts, from standing megawatts, and from a table.
+#![tactic(auto)]
+
 pub mod fact_book;
 pub mod measure;
 pub mod period;

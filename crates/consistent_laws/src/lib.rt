@@ -1,5 +1,7 @@
 //! Nothing absurd follows from the laws of a trait. Each function here has a plain contract over every
 //! rule or every book; turned false, it must be refused, which it would not be if the laws clashed.
+#![tactic(auto)]
+
 ghost use Rattle.std.specs.Prelude.{◌≡◌};
 
 use book::book::{Book, Correctable};

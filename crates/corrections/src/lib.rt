@@ -1,3 +1,5 @@
 //! Corrections over any book.
+#![tactic(auto)]
+
 pub mod fixes;
 pub mod layer;

@@ -1,4 +1,6 @@
 //! A book that is one of two books, so that one list may hold books of several types.
+#![tactic(auto)]
+
 ghost use Rattle.either_book.specs.Either.{either};
 ghost use Rattle.std.proofs.Common.{rules};
 

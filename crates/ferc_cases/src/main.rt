@@ -1,4 +1,6 @@
 //! A FERC year at its edges: what it answers, printed line by line.
+#![tactic(auto)]
+
 use bottom_books::table_book::TableBook;
 use ferc::year::FercYear;
 use refusal::Fault;

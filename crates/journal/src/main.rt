@@ -1,4 +1,6 @@
 //! Reads a journal on standard input, runs it on one ledger, and prints what each entry came to.
+#![tactic(auto)]
+
 use journal_run::answer::answer;
 use std::io;
 use std::io::Read;

@@ -1,4 +1,6 @@
 //! A journal from its text to what it prints: its orders, their run on one ledger, and the sums.
+#![tactic(auto)]
+
 pub mod answer;
 mod orders;
 mod printing;

@@ -1,4 +1,6 @@
 //! Runs the stored journals and compares every line with what a second program computed for them.
+#![tactic(auto)]
+
 use journal_run::answer::answer;
 use std::{fs, io};
 

@@ -1,4 +1,6 @@
 //! The ledger: it books costs, bills months, and resettles months on file.
+#![tactic(auto)]
+
 pub mod account;
 pub mod accounts;
 mod billing;

@@ -1,4 +1,6 @@
 //! The reader of a month's text.
+#![tactic(auto)]
+
 mod lines;
 mod members;
 pub mod month;

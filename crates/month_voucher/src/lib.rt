@@ -1,4 +1,6 @@
 //! A month's costs on one voucher: opened with the control total, one line a head, balanced.
+#![tactic(auto)]
+
 ghost use Rattle.std.specs.Prelude.{◌≡◌, IfOk, OnOk};
 ghost use Rattle.cents.specs.Cutting.{sum_z};
 ghost use Rattle.refusal.specs.Answers.{answer, answer_by, bare, done};

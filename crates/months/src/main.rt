@@ -1,4 +1,6 @@
 //! Bills the stored months and compares every line with what a second program computed for them.
+#![tactic(auto)]
+
 use month_bill::answer::answer;
 use std::{fs, io};
 

@@ -1,4 +1,6 @@
 //! The one fault type of the whole repository: which refusal, which layer's check failed, and where.
+#![tactic(auto)]
+
 ghost use Rattle.std.specs.Prelude.{◌≡◌};
 ghost use Rattle.refusal.specs.Answers.{number};
 

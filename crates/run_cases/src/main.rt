@@ -1,4 +1,6 @@
 //! Carries out the stored runs and compares every step with what a second program computed.
+#![tactic(auto)]
+
 mod found;
 mod numbers;
 mod stored;

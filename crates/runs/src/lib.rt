@@ -1,4 +1,6 @@
 //! Runs: a whole list of orders carried out on a new ledger.
+#![tactic(auto)]
+
 mod carrying;
 pub mod order;
 pub mod outcome;

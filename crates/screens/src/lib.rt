@@ -1,5 +1,7 @@
 //! What screens written in C call: the FERC rate, and the test of a month's text. A refusal is told
 //! by its number; 0 is an accepted call.
+#![tactic(auto)]
+
 ghost use Rattle.std.specs.Prelude.{◌≡◌};
 ghost use Rattle.screens.specs.Screens.{rate_told, text_told};
 ghost use Rattle.ferc.specs.Rates.{rate_rule};

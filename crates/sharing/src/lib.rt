@@ -1,4 +1,6 @@
 //! Sharing a pool among the members by their units.
+#![tactic(auto)]
+
 pub mod bounds;
 pub mod domain;
 pub mod posted;

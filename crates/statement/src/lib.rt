@@ -1,4 +1,6 @@
 //! A month's statement: every component's pool shared over the members by their units.
+#![tactic(auto)]
+
 pub mod checks;
 pub mod component;
 pub mod month;

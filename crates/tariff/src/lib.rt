@@ -1,4 +1,6 @@
 //! The tariff: the sheet of weights, the six heads of cost, and the thirteen component costs.
+#![tactic(auto)]
+
 pub mod costs;
 pub mod heads;
 pub mod settlement;

@@ -1,4 +1,6 @@
 //! Sums worked by hand, shown of the definitions themselves.
+#![tactic(auto)]
+
 ghost use Rattle.std.specs.Prelude.{◌≡◌, length};
 ghost use Rattle.worked_sums.specs.Sums.{computed, by_hand};
 
