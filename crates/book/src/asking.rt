@@ -39,7 +39,7 @@ fn added(units: u32, amount: i64) -> Result<u32, Fault>
 /// The units that a correction of a book would leave at its pair, before it is asked whether the
 /// book takes that pair.
 pub fn new_units<B: Book>(book: &B, kind: u32, member: u32, amount: i64) -> Result<u32, Fault>
-    ensures told { answer result ≡ new_units_rule (count book.now) (held book.now kind member) kind member amount }
+    ensures told { answer result ≡ new_units_rule (B.count book.now) (B.held book.now kind member) kind member amount }
     ensures small { IfOk result (λ units. units ≤ 2000000000) }
 {
     if amount.unsigned_abs() > MOST_AMOUNT {

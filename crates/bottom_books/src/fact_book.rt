@@ -3,7 +3,7 @@ ghost use Rattle.std.specs.Prelude.{◌≡◌, ℕ, length, take, MatchResult};
 ghost use Rattle.refusal.specs.Answers.{answer, bare, done};
 ghost use Rattle.units.specs.Kinds.{units_of};
 ghost use Rattle.bottom_books.specs.Tables.{cell, table_rule};
-ghost use Rattle.bottom_books.specs.Bounds.{facts-small};
+ghost use Rattle.bottom_books.specs.Bounds.{facts_small};
 ghost use Rattle.std.proofs.Common.{rules};
 
 use crate::measure::Measure;
@@ -19,7 +19,7 @@ pub struct FactUnits;
 impl Measure<Facts> for FactUnits {
     ghost reads = { λ _ facts. units_of facts };
 
-    ghost small = { λ x row units e k. facts-small row units e k };
+    ghost small = { λ x row units e k. facts_small row units e k };
 
     fn read(&self, row: &Facts) -> Option<[u32; 7]> {
         row.units()

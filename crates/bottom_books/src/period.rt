@@ -2,7 +2,7 @@
 ghost use Rattle.std.specs.Prelude.{◌≡◌, ℕ, ◌*◌, ◌≤◌, if◌then◌else◌, Some, None};
 ghost use Rattle.std.specs.Option.{option_map};
 ghost use Rattle.bottom_books.specs.Standings.{period_lawful, standing_units};
-ghost use Rattle.bottom_books.specs.Bounds.{standing-small};
+ghost use Rattle.bottom_books.specs.Bounds.{standing_small};
 
 use crate::measure::Measure;
 use crate::standing::Standing;
@@ -31,7 +31,7 @@ impl Period {
 impl Measure<Standing> for Period {
     ghost reads = { λ p standing. standing_units p.hours p.days standing };
 
-    ghost small = { λ x row units e k. standing-small x.hours x.days row units x.hourly.1 x.daily.1 e k };
+    ghost small = { λ x row units e k. standing_small x.hours x.days row units x.hourly.1 x.daily.1 e k };
 
     fn read(&self, row: &Standing) -> Option<[u32; 7]> {
         if !row.lawful() {

@@ -3,7 +3,7 @@ ghost use Rattle.std.specs.Prelude.{◌≡◌, ℕ, true, length, take, MatchRes
 ghost use Rattle.refusal.specs.Answers.{answer, bare, done};
 ghost use Rattle.bottom_books.specs.Given.{given_units};
 ghost use Rattle.bottom_books.specs.Tables.{cell, table_rule};
-ghost use Rattle.bottom_books.specs.Bounds.{given-small};
+ghost use Rattle.bottom_books.specs.Bounds.{given_small};
 ghost use Rattle.std.proofs.Common.{rules};
 
 use crate::measure::Measure;
@@ -20,7 +20,7 @@ pub struct GivenUnits;
 impl Measure<[u32; 7]> for GivenUnits {
     ghost reads = { λ _ row. given_units row };
 
-    ghost small = { λ x row units e k. given-small row units e k };
+    ghost small = { λ x row units e k. given_small row units e k };
 
     fn read(&self, row: &[u32; 7]) -> Option<[u32; 7]> {
         let units = *row;

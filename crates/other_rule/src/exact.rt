@@ -3,10 +3,10 @@ ghost use Rattle.std.specs.Prelude.{◌≡◌, ℕ, ◌*◌, ◌≤◌, map, len
 ghost use Rattle.sharing.specs.Shares.{shared};
 ghost use Rattle.other_rule.specs.Exact.{exact_share};
 ghost use Rattle.std.proofs.lemmas.List.{length-map};
-ghost use Rattle.sharing.specs.Shared.{shared_long, shared-idle, shared-fair, shared-unused};
+ghost use Rattle.sharing.specs.Shared.{shared_long, shared_idle, shared_fair, shared_unused};
 ghost use Rattle.std.proofs.Common.{rules};
-ghost use Rattle.other_rule.specs.ExactShares.{each-near, exact_none};
-ghost use Rattle.sharing.specs.Members.{map-unused};
+ghost use Rattle.other_rule.specs.ExactShares.{each_near, exact_none};
+ghost use Rattle.sharing.specs.Members.{map_unused};
 
 use cents::rounding::nearest;
 use sharing::domain::{clear, in_domain, total};
@@ -46,11 +46,11 @@ impl Rule for Exact {
 
     ghost long = { λ x p us. shared_long p us _ (length-map us _) };
 
-    ghost idle = { λ x p us e. shared-idle p us _ e };
+    ghost idle = { λ x p us e. shared_idle p us _ e };
 
-    ghost fair = { λ x p us e m. shared-fair 0 p us _ m e (Prim.search (rules, each-near)) };
+    ghost fair = { λ x p us e m. shared_fair 0 p us _ m e (Prim.search (rules, each_near)) };
 
-    ghost unused = { λ x p us m e. shared-unused p us _ m (map-unused _ us m (Prim.search (rules, exact_none)) e) };
+    ghost unused = { λ x p us m e. shared_unused p us _ m (map_unused _ us m (Prim.search (rules, exact_none)) e) };
 
     fn stated() -> u32 {
         Self::STEP

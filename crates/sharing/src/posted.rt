@@ -2,10 +2,10 @@
 ghost use Rattle.std.specs.Prelude.{◌≡◌, ℕ, ◌*◌, ◌≤◌, map, length, sum, slice_index, unsigned_abs};
 ghost use Rattle.sharing.specs.Posted.{posted_rate, posted_share, posted};
 ghost use Rattle.std.proofs.lemmas.List.{length-map};
-ghost use Rattle.sharing.specs.Shared.{shared_long, shared-idle, shared-fair, shared-unused};
+ghost use Rattle.sharing.specs.Shared.{shared_long, shared_idle, shared_fair, shared_unused};
 ghost use Rattle.std.proofs.Common.{rules, arith};
-ghost use Rattle.sharing.specs.PostedShares.{each-near, nearest-none};
-ghost use Rattle.sharing.specs.Members.{map-unused};
+ghost use Rattle.sharing.specs.PostedShares.{each_near, nearest_none};
+ghost use Rattle.sharing.specs.Members.{map_unused};
 
 use crate::domain::{clear, in_domain, total};
 use crate::rule::Rule;
@@ -55,11 +55,11 @@ impl Rule for Posted {
 
     ghost long = { λ x p us. shared_long p us _ (length-map us _) };
 
-    ghost idle = { λ x p us e. shared-idle p us _ e };
+    ghost idle = { λ x p us e. shared_idle p us _ e };
 
-    ghost fair = { λ x p us e m. shared-fair _ p us _ m e (Prim.search (rules, each-near)) };
+    ghost fair = { λ x p us e m. shared_fair _ p us _ m e (Prim.search (rules, each_near)) };
 
-    ghost unused = { λ x p us m e. shared-unused p us _ m (map-unused _ us m (nearest-none 100 (posted_rate p (sum us)) (omega arith)) e) };
+    ghost unused = { λ x p us m e. shared_unused p us _ m (map_unused _ us m (nearest_none 100 (posted_rate p (sum us)) (omega arith)) e) };
 
     fn stated() -> u32 {
         Self::STEP

@@ -2,9 +2,9 @@
 ghost use Rattle.std.specs.Prelude.{◌≡◌, length, sum};
 ghost use Rattle.cents.specs.Cutting.{cut};
 ghost use Rattle.sharing.specs.Ratio.{ratio};
-ghost use Rattle.sharing.specs.Shared.{shared_long, shared-idle, shared-fair, shared-unused};
-ghost use Rattle.sharing.specs.RatioShares.{length-parts, part-near, part-unused};
-ghost use Rattle.sharing.specs.Domains.{in-domain};
+ghost use Rattle.sharing.specs.Shared.{shared_long, shared_idle, shared_fair, shared_unused};
+ghost use Rattle.sharing.specs.RatioShares.{length_parts, part_near, part_unused};
+ghost use Rattle.sharing.specs.Domains.{in_domain_lem};
 ghost use Rattle.std.proofs.Common.{rules};
 
 use crate::domain::{clear, in_domain, total};
@@ -40,13 +40,13 @@ impl Rule for Ratio {
 
     ghost stepped = { Prim.search rules };
 
-    ghost long = { λ x p us. shared_long p us (cut p us) (length-parts p (sum us) 0 us) };
+    ghost long = { λ x p us. shared_long p us (cut p us) (length_parts p (sum us) 0 us) };
 
-    ghost idle = { λ x p us e. shared-idle p us (cut p us) e };
+    ghost idle = { λ x p us e. shared_idle p us (cut p us) e };
 
-    ghost fair = { λ x p us e m. shared-fair 0 p us (cut p us) m e (part-near p (sum us) 0 us m (in-domain p (sum us) e).1) };
+    ghost fair = { λ x p us e m. shared_fair 0 p us (cut p us) m e (part_near p (sum us) 0 us m (in_domain_lem p (sum us) e).1) };
 
-    ghost unused = { λ x p us m e. shared-unused p us (cut p us) m (part-unused p (sum us) 0 us m e) };
+    ghost unused = { λ x p us m e. shared_unused p us (cut p us) m (part_unused p (sum us) 0 us m e) };
 
     fn stated() -> u32 {
         Self::STEP

@@ -13,8 +13,8 @@ use refusal::{Fault, Layer, Refusal};
 /// Reads rows as units, into memory with a place for each.
 fn read_rows<R, M: Measure<R>>(measure: &M, rows: &[R], out: &mut [[u32; 7]]) -> Result<(), Fault>
     requires { length out.old ≡ length rows.now }
-    ensures told { answer result ≡ bare (rows_rule (reads measure.now) rows.now) }
-    ensures rows { OnOk result (rows_rule (reads measure.now) rows.now ≡ done out.new) }
+    ensures told { answer result ≡ bare (rows_rule (M.reads measure.now) rows.now) }
+    ensures rows { OnOk result (rows_rule (M.reads measure.now) rows.now ≡ done out.new) }
 {
     for i in 0..rows.len() {
         let Some(row) = measure.read(&rows[i]) else {
@@ -28,7 +28,7 @@ fn read_rows<R, M: Measure<R>>(measure: &M, rows: &[R], out: &mut [[u32; 7]]) ->
 /// The same in 200 places of its own; those past the rows have no units.
 fn fresh_rows<R, M: Measure<R>>(measure: &M, rows: &[R]) -> Result<[[u32; 7]; 200], Fault>
     requires { length rows.now ≤ 200 }
-    ensures told { answer_by (λ fresh. take (length rows.now) fresh) result ≡ rows_rule (reads measure.now) rows.now }
+    ensures told { answer_by (λ fresh. take (length rows.now) fresh) result ≡ rows_rule (M.reads measure.now) rows.now }
     ensures long { IfOk result (λ fresh. length fresh ≡ 200) }
     ensures small { IfOk result (λ fresh. Small fresh) }
 {
@@ -71,8 +71,8 @@ impl UnitTable {
         measure: &M,
         rows: &[R],
     ) -> Result<(), Fault>
-        ensures told { answer result ≡ bare (table_rule (reads measure.now) month rows.now) }
-        ensures after { MatchResult result (λ _. (self.new.month ≡ month) × (self.new.count ≡ length rows.now) × (table_rule (reads measure.now) month rows.now ≡ done (take (length rows.now) self.new.rows))) (λ _. self.new ≡ self.old) }
+        ensures told { answer result ≡ bare (table_rule (M.reads measure.now) month rows.now) }
+        ensures after { MatchResult result (λ _. (self.new.month ≡ month) × (self.new.count ≡ length rows.now) × (table_rule (M.reads measure.now) month rows.now ≡ done (take (length rows.now) self.new.rows))) (λ _. self.new ≡ self.old) }
     {
         if !month_within(month) {
             return Err(Layer::Book.refuses(Refusal::Range));

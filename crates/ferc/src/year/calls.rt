@@ -23,9 +23,9 @@ fn charge(rate: i64, units: u32) -> i64
 /// Writes every member's charge.
 fn write_charges<B: Book>(rate: i64, book: &B, statement: &mut [i64]) -> Result<(), Fault>
     requires rate { unsigned_abs rate ≤ 1000000 }
-    requires long { length statement.old ≡ count book.now }
+    requires long { length statement.old ≡ B.count book.now }
     ensures told { answer result ≡ done tt }
-    ensures cells { statement.new ≡ charges rate (held book.now) 0 (count book.now) }
+    ensures cells { statement.new ≡ charges rate (B.held book.now) 0 (B.count book.now) }
 {
     for i in 0..statement.len() {
         let units = book.units(1, i as u32)?;
@@ -98,8 +98,8 @@ impl FercYear {
 
     /// Bills a month: one cell for each member of the book. Refused, nothing changes.
     pub fn bill<B: Book>(&mut self, book: &B, statement: &mut [i64]) -> Result<(), Fault>
-        ensures told { answer result ≡ month_rule self.old.months (length statement.old) (count book.now) }
-        ensures done { MatchResult result (λ _. (statement.new ≡ charges self.old.rate (held book.now) 0 (count book.now)) × (self.new.rate ≡ self.old.rate) × (self.new.months ≡ self.old.months + 1) × (self.new.billed ≡ self.old.billed +ℤ sum_z statement.new)) (λ _. (self.new ≡ self.old) × (statement.new ≡ statement.old)) }
+        ensures told { answer result ≡ month_rule self.old.months (length statement.old) (B.count book.now) }
+        ensures done { MatchResult result (λ _. (statement.new ≡ charges self.old.rate (B.held book.now) 0 (B.count book.now)) × (self.new.rate ≡ self.old.rate) × (self.new.months ≡ self.old.months + 1) × (self.new.billed ≡ self.old.billed +ℤ sum_z statement.new)) (λ _. (self.new ≡ self.old) × (statement.new ≡ statement.old)) }
         ensures year { (history : List (List ℤ)) → Adds history self.old.months self.old.billed → MatchResult result (λ _. Adds (statement.new ∷ history) self.new.months self.new.billed) (λ _. Adds history self.new.months self.new.billed) }
     {
         if statement.len() != book.members() as usize {

@@ -6,10 +6,10 @@ use Rattle.month_voucher.proofs.cost_voucher.Goals as goal
 
 pub returns-in-Ok : goal.returns-in-Ok
 returns-in-Ok c =
-    let v = c.in-ok-voucher.voucher in
+    let v = c.in_ok-voucher.voucher in
     let x = to_z w64 (of_z w64 c.args.control) in
     let e = to_z-of_z w64 c.args.control c.ranges.control in
-    let o = c.in-ok-voucher.ensures in
+    let o = c.in_ok-voucher.ensures in
     let k = cost_opened c.args.control x c.args.cost v.amounts v.control v.state e o in
     let f = ap (λ (z : ℤ). fill_rule z v.amounts c.args.cost) (sym k) ∙ c.in-Ok.ensures.amounts in
     record {
@@ -20,10 +20,10 @@ returns-in-Ok c =
 
 pub returns-in-Err : goal.returns-in-Err
 returns-in-Err c =
-    let v = c.in-ok-voucher.voucher in
+    let v = c.in_ok-voucher.voucher in
     let x = to_z w64 (of_z w64 c.args.control) in
     let e = to_z-of_z w64 c.args.control c.ranges.control in
-    let o = c.in-ok-voucher.ensures in
+    let o = c.in_ok-voucher.ensures in
     let k = cost_opened c.args.control x c.args.cost v.amounts v.control v.state e o in
     let u = unbare (fill_rule v.control v.amounts c.args.cost) _ _ _ c.in-Err.ensures.told in
     record {

@@ -19,15 +19,15 @@ upto_whole g c =
     let t = sum_by-take-le (λ x. x) c.args.weights (c.loop-i.i + 1) in
     (omega (arith, m), omega (arith, m, t))
 
-pub overflow-add-upto : goal.overflow-add-upto
-overflow-add-upto g c = omega (arith, (upto_whole g c).1)
+pub overflow_add-upto : goal.overflow_add-upto
+overflow_add-upto g c = omega (arith, (upto_whole g c).1)
 
 pub part-requires : goal.part-requires
 part-requires g c = record { rising = omega arith; within = (upto_whole g c).1 }
 
 pub loop-i-preserved : goal.loop-i-preserved
 loop-i-preserved g c =
-    let e = to_z-of_z w64 c.part.result (record { sfits = c.part.type-inv }) in
+    let e = to_z-of_z w64 c.part.result (record { sfits = c.part.type_inv }) in
     let l : c.loop-i.i < length c.args.weights = omega arith in
     let m = sum_by_more (λ x. x) c.args.weights c.loop-i.i 0 l in (
       simp length-set c.loop-i.invariant.0,

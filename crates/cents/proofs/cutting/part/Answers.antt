@@ -29,9 +29,9 @@ module _ (c : goal.After-taken-2) where
       let p = part_inside a T c.args.before (c.args.upto - c.args.before) (omega arith) in
       subst (λ (n : ℕ). Inside a (taken a T n -ℤ taken a T c.args.before)) e p
 
-pub overflow-sub-result : goal.overflow-sub-result
+pub overflow_sub-result : goal.overflow_sub-result
 unfolding a T
-overflow-sub-result c = omega (arith, ints, (inner c).0, (inner c).1, upper c, lower c)
+overflow_sub-result c = omega (arith, ints, (inner c).0, (inner c).1, upper c, lower c)
 
 pub returns : goal.returns
 unfolding a T

@@ -18,9 +18,9 @@ product_is a n f h =
     let g : to_z w128 n ≡ pos n = omega (arith, ints) in
     (product_fits a _ _ n f h e g, rw (e, g))
 
-pub overflow-mul-amount : goal.overflow-mul-amount
+pub overflow_mul-amount : goal.overflow_mul-amount
 unfolding product
-overflow-mul-amount c = (product_is c.args.amount c.min-run.result c.ranges.amount (omega arith)).0
+overflow_mul-amount c = (product_is c.args.amount c.min-run.result c.ranges.amount (omega arith)).0
 
 quotient : (c : goal.After-down) → c.down.result ≡ taken c.args.amount c.args.whole (min c.args.run c.args.whole)
 unfolding product
@@ -32,8 +32,8 @@ quotient c =
 within : (c : goal.After-down) → Inside c.args.amount (taken c.args.amount c.args.whole (min c.args.run c.args.whole))
 within c = taken_inside c.args.amount c.args.whole (min c.args.run c.args.whole) (omega arith)
 
-pub overflow-cast-result : goal.overflow-cast-result
-overflow-cast-result c = omega (arith, ints, quotient c, (within c).0, (within c).1)
+pub overflow_cast-result : goal.overflow_cast-result
+overflow_cast-result c = omega (arith, ints, quotient c, (within c).0, (within c).1)
 
 pub returns : goal.returns
 returns c =

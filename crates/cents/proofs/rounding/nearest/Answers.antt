@@ -12,14 +12,14 @@ dividend a b = to_z w128 (of_z w128 (to_z w128 (of_z w128 (pos 2 *ℤ to_z w128 
 divisor : ℕ → ℤ
 divisor b = to_z w128 (of_z w128 (pos 2 *ℤ to_z w128 b))
 
-quotient : (c : goal.After-div-euclid) → c.div-euclid.result ≡ round_nearest c.args.a c.args.b
+quotient : (c : goal.After-div_euclid) → c.div_euclid.result ≡ round_nearest c.args.a c.args.b
 unfolding dividend divisor
 quotient c =
-    nearest_is {x = dividend c.args.a c.args.b} {y = divisor c.args.b} c.args.a c.div-euclid.result c.args.b
-    c.div-euclid.ensures (omega arith) (omega (arith, ints)) (omega (arith, ints))
+    nearest_is {x = dividend c.args.a c.args.b} {y = divisor c.args.b} c.args.a c.div_euclid.result c.args.b
+    c.div_euclid.ensures (omega arith) (omega (arith, ints)) (omega (arith, ints))
 
-pub overflow-cast-result : goal.overflow-cast-result
-overflow-cast-result c =
+pub overflow_cast-result : goal.overflow_cast-result
+overflow_cast-result c =
     let i = nearest_inside c.args.a c.args.b (omega arith) in
     omega (arith, ints, quotient c, i.0, i.1)
 
@@ -28,5 +28,5 @@ returns c =
     let a : ℤ = c.args.a in
     let i = nearest_inside a c.args.b (omega arith) in
     let e = quotient c in
-    let v : to_z w64 (of_z w64 (to_z w128 (of_z w128 c.div-euclid.result))) ≡ round_nearest a c.args.b = omega (arith, ints, e, i.0, i.1) in
+    let v : to_z w64 (of_z w64 (to_z w128 (of_z w128 c.div_euclid.result))) ≡ round_nearest a c.args.b = omega (arith, ints, e, i.0, i.1) in
     record { value = v; closest = λ h. subst (Closest a c.args.b) (sym v) (down_largest _ _ (omega arith)) }

@@ -8,7 +8,7 @@ pub loop-weight-preserved : goal.loop-weight-preserved
 loop-weight-preserved g c =
     let l : c.loop-weight.weight-index < length c.args.weights = omega arith in
     let m = sum_by_more (λ x. x) c.args.weights c.loop-weight.weight-index 0 l in
-    omega (arith, m, c.loop-weight.invariant, c.saturating-add-total.ensures)
+    omega (arith, m, c.loop-weight.invariant, c.saturating_add-total.ensures)
 
 pub returns : goal.returns
 returns g c =

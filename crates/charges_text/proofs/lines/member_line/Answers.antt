@@ -6,4 +6,4 @@ use Rattle.charges_text.proofs.lines.member_line.Goals as goal
 pub returns : goal.returns
 returns c =
     let f : SFits w128 c.total-sum.result = search rules in
-    rw (← c.in-ok-parts.ensures, ← c.total-sum.ensures) (simp to_z-of_z at c.format.ensures.ok)
+    rw (← c.in_ok-parts.ensures, ← c.total-sum.ensures) (simp to_z-of_z at c.format.ensures.ok)

@@ -4,9 +4,9 @@ use Rattle.cents.specs.Cutting.{sum_z}
 use Rattle.ledger.proofs.Differences.{left_told}
 use Rattle.ledger.proofs.changes.balance_left.Goals as goal
 
-pub overflow-sub-left : goal.overflow-sub-left
-overflow-sub-left c = omega (arith, ints, c.sum-of.ensures, c.requires.balance, c.requires.changes)
+pub overflow_sub-left : goal.overflow_sub-left
+overflow_sub-left c = omega (arith, ints, c.sum_of.ensures, c.requires.balance, c.requires.changes)
 
 pub returns : goal.returns
 returns c =
-    left_told (c.args.balance -ℤ sum_z c.args.changes.now) _ (omega (arith, ints, c.sum-of.ensures, c.requires.balance, c.requires.changes)) (omega (arith, ints, c.sum-of.ensures, c.requires.balance, c.requires.changes))
+    left_told (c.args.balance -ℤ sum_z c.args.changes.now) _ (omega (arith, ints, c.sum_of.ensures, c.requires.balance, c.requires.changes)) (omega (arith, ints, c.sum_of.ensures, c.requires.balance, c.requires.changes))

@@ -14,7 +14,7 @@ loop-i-preserved g c =
     let i = c.loop-i.i in
     let k = c.args.kind in
     let rows = book_rows held 0 count in
-    let u = ask_is count (held (k + 1) i) (k + 1) i c.in-ok-out.field-0 (omega arith) (omega (arith, c.requires.kind)) (omega (arith, c.requires.long)) c.in-ok-out.ensures in
+    let u = ask_is count (held (k + 1) i) (k + 1) i c.in_ok-out.field-0 (omega arith) (omega (arith, c.requires.kind)) (omega (arith, c.requires.long)) c.in_ok-out.ensures in
     front_more 0 (column rows k) c.loop-i.out i _ (omega (arith, column_length rows k, rows_length held 0 count, c.requires.long)) (omega arith)
     (u ∙ sym (kind_at held count k i c.requires.kind (omega (arith, c.requires.long)))) c.loop-i.invariant
 

@@ -6,10 +6,10 @@ use Rattle.ledger.specs.Standings.{account_at}
 use Rattle.ledger.proofs.Resettled.{row_fits, lines_told, lines_done}
 use Rattle.ledger.proofs.resettling.resettle_lines.Goals as goal
 
-pub slice-bounds-row-end : goal.slice-bounds-row-end
-slice-bounds-row-end g c =
+pub slice_bounds-row-end : goal.slice_bounds-row-end
+slice_bounds-row-end g c =
     let a = c.args.accounts.now in
-    let p : c.row-start-start.result + a.members ≤ length c.args.file.now = omega (arith, row_fits a.members c.month-month.result c.args.component c.requires.component, c.row-start-start.ensures, c.requires.file) in
+    let p : c.row_start-start.result + a.members ≤ length c.args.file.now = omega (arith, row_fits a.members c.month-month.result c.args.component c.requires.component, c.row_start-start.ensures, c.requires.file) in
     p
 
 pub returns : goal.returns
@@ -19,14 +19,14 @@ returns g c =
     let b = reading (g.B.Book.month book) (g.B.Book.count book) (g.B.Book.held book) in
     let i = c.args.component in
     let month = c.month-month.result in
-    let start = c.row-start-start.result in
+    let start = c.row_start-start.result in
     let k = start + a.members - start in
     let sh = g.R.Rule.shares c.args.rule.now in
     let em = c.month-month.ensures in
     let ep = to_z-of_z w64 (get_or (account_at a i).pools (month % 6) (pos 0)) (search rules) ∙ ap (λ m. get_or (account_at a i).pools (m % 6) (pos 0)) em in
     let eb = to_z-of_z w64 (account_at a i).balance (search rules) in
-    let es = c.row-start-start.ensures ∙ ap (λ m. row_at a.members m i) em in
+    let es = c.row_start-start.ensures ∙ ap (λ m. row_at a.members m i) em in
     record {
-      told = lines_told sh a c.args.file.now b i _ _ start k ep eb es (omega arith) _ c.resettle-members.ensures.told;
-      done = lines_done sh a c.args.file.now b i _ _ start k ep eb es (omega arith) c.resettle-members.result c.resettle-members.new.lines c.args.statement.now c.resettle-members.new.cells (omega (arith, c.resettle-members.auto.lines)) c.resettle-members.ensures.done;
+      told = lines_told sh a c.args.file.now b i _ _ start k ep eb es (omega arith) _ c.resettle_members.ensures.told;
+      done = lines_done sh a c.args.file.now b i _ _ start k ep eb es (omega arith) c.resettle_members.result c.resettle_members.new.lines c.args.statement.now c.resettle_members.new.cells (omega (arith, c.resettle_members.auto.lines)) c.resettle_members.ensures.done;
     }

@@ -7,26 +7,26 @@ use Rattle.statement.specs.Readings.{book_rows}
 use Rattle.ledger.proofs.Differences.{units_refuse}
 use Rattle.ledger.proofs.resettling.resettle_row.Goals as goal
 
-pub returns-in-err-share-again : goal.returns-in-err-share-again
-returns-in-err-share-again g c =
-    let p = err_from_is_err_and c.from-residual.result c.from-residual.ensures.1 in
+pub returns-in_err-share_again : goal.returns-in_err-share_again
+returns-in_err-share_again g c =
+    let p = err_from_is_err_and c.from_residual.result c.from_residual.ensures.1 in
     let rows = book_rows (g.B.Book.held c.args.book.now) 0 (g.B.Book.count c.args.book.now) in
-    let e = c.kind-of.ensures.value in
-    let t = c.in-err-share-again.ensures.told in
+    let e = c.kind_of.ensures.value in
+    let t = c.in_err-share_again.ensures.told in
     let us = column rows (kind_of c.args.component) in
     rw (p.1, p.2) (record {
-      told = units_refuse c.args.component c.kind-of.result rows (g.R.Rule.shares c.args.rule.now c.args.pool us) c.args.balance c.args.lines.now _ _ _ e t;
+      told = units_refuse c.args.component c.kind_of.result rows (g.R.Rule.shares c.args.rule.now c.args.pool us) c.args.balance c.args.lines.now _ _ _ e t;
       done = (refl, refl);
     })
 
-pub find-changes-requires : goal.find-changes-requires
-find-changes-requires g c =
+pub find_changes-requires : goal.find_changes-requires
+find_changes-requires g c =
     let x = c.args.rule.now in
     let z = to_z-of_z w64 c.args.balance c.ranges.balance in
-    let q = c.in-ok-share-again.ensures.shared.1 in
+    let q = c.in_ok-share_again.ensures.shared.1 in
     let n = (g.met.B.Book.peopled c.args.book.now).1 in
-    let f = c.share-again.auto.fresh in
-    let us = column (book_rows (g.B.Book.held c.args.book.now) 0 (g.B.Book.count c.args.book.now)) c.kind-of.result in
+    let f = c.share_again.auto.fresh in
+    let us = column (book_rows (g.B.Book.held c.args.book.now) 0 (g.B.Book.count c.args.book.now)) c.kind_of.result in
     record {
       few = omega (arith, f, c.requires.fresh, n);
       component = c.requires.component;

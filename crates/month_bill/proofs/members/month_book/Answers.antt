@@ -10,12 +10,12 @@ use Rattle.month_bill.proofs.members.month_book.Goals as goal
 pub returns : goal.returns
 returns c =
     let book = c.fill.new.self.units in
-    let facts = c.copy-facts.new.out in
-    let p = c.in-ok-fill.ensures.after in
+    let facts = c.copy_facts.new.out in
+    let p = c.in_ok-fill.ensures.after in
     let l : length facts ≤ length book.rows = omega (arith, p.1, book.long, book.peopled.1) in
     let read = book_read c.args.month (length facts) facts book.rows l p.2 in
-    let n : book.count ≡ length c.args.members.now = p.1 ∙ omega (arith, c.copy-facts.auto.out, c.requires) in
+    let n : book.count ≡ length c.args.members.now = p.1 ∙ omega (arith, c.copy_facts.auto.out, c.requires) in
     record {
-      told = ap (λ (k : ℕ). done (book_rows (cell book.rows) 0 k)) p.1 ∙ sym read ∙ ap (λ (fs : List Facts). table_rule units_of c.args.month fs) c.copy-facts.ensures;
+      told = ap (λ (k : ℕ). done (book_rows (cell book.rows) 0 k)) p.1 ∙ sym read ∙ ap (λ (fs : List Facts). table_rule units_of c.args.month fs) c.copy_facts.ensures;
       means = (p.0, n);
     }

@@ -11,21 +11,21 @@ pub loop-i-init : goal.loop-i-init
 loop-i-init c =
     (refl, refl, ap (replicate 32) c.blank-members.ensures, rows_start c.args.count (c.args.count - 0) 9 0 c.args.s.now (omega arith))
 
-pub returns-in-err-member : goal.returns-in-err-member
-returns-in-err-member c =
-    let p = err_from_is_err_and c.from-residual.result c.from-residual.ensures.1 in
+pub returns-in_err-member : goal.returns-in_err-member
+returns-in_err-member c =
+    let p = err_from_is_err_and c.from_residual.result c.from_residual.ensures.1 in
     let k : c.args.count - c.loop-i.i ≡ suc (c.args.count - (c.loop-i.i + 1)) = omega arith in
-    let f = c.in-err-member.field-0.0 in
-    let d = rows_stop (c.args.count - c.loop-i.i) (c.args.count - (c.loop-i.i + 1)) c.loop-i.place c.loop-i.last c.loop-i.rest.now (take c.loop-i.i c.loop-i.members) (number f.refusal) f.layer f.place k (sym c.in-err-member.ensures) in
+    let f = c.in_err-member.field-0.0 in
+    let d = rows_stop (c.args.count - c.loop-i.i) (c.args.count - (c.loop-i.i + 1)) c.loop-i.place c.loop-i.last c.loop-i.rest.now (take c.loop-i.i c.loop-i.members) (number f.refusal) f.layer f.place k (sym c.in_err-member.ensures) in
     rw (p.1, p.2) (record { range = tt; value = sym (places_stop c.args.count c.args.s.now (number f.refusal) f.layer f.place (c.loop-i.invariant.3 ∙ d)) })
 
 pub loop-i-preserved : goal.loop-i-preserved
 loop-i-preserved c =
     let k : c.args.count - c.loop-i.i ≡ suc (c.args.count - (c.loop-i.i + 1)) = omega arith in
     let l : c.loop-i.i < length c.loop-i.members = omega arith in
-    let m = c.in-ok-member.member in
+    let m = c.in_ok-member.member in
     let ms = c.loop-i.members in
-    let d = rows_more (c.args.count - c.loop-i.i) (c.args.count - (c.loop-i.i + 1)) c.loop-i.place (c.loop-i.place + 1) c.loop-i.last c.loop-i.rest.now m c.in-ok-member.after.now (take c.loop-i.i ms) k refl (sym c.in-ok-member.ensures) in
+    let d = rows_more (c.args.count - c.loop-i.i) (c.args.count - (c.loop-i.i + 1)) c.loop-i.place (c.loop-i.place + 1) c.loop-i.last c.loop-i.rest.now m c.in_ok-member.after.now (take c.loop-i.i ms) k refl (sym c.in_ok-member.ensures) in
     let one : c.loop-i.i < c.loop-i.i + 1 = omega arith in
     let left : 32 - c.loop-i.i - 1 ≡ 32 - (c.loop-i.i + 1) = omega arith in
     let b : drop (c.loop-i.i + 1) (set ms c.loop-i.i m) ≡ replicate (32 - (c.loop-i.i + 1)) blank =

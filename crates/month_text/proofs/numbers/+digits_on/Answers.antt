@@ -7,5 +7,5 @@ returns-else-n-ge10000000000 t c =
     let d = on_digit c.args.n c.args.s.now (omega arith) (omega arith) (omega arith) (omega arith) in
     record { value = cc; small = search rules }
 
-pub returns-in-default : goal.returns-in-default
-returns-in-default t c = record { value = search (rules, on_none, on_below, on_above); small = search rules }
+pub returns-in_default : goal.returns-in_default
+returns-in_default t c = record { value = search (rules, on_none, on_below, on_above); small = search rules }

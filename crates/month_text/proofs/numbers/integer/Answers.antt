@@ -3,17 +3,17 @@ use Rattle.std.proofs.lemmas.Int.{ints}
 use Rattle.month_text.proofs.Steps.{signed_none, signed_zero, signed_some}
 use Rattle.month_text.proofs.numbers.integer.Goals as goal
 
-pub returns-in-err-n : goal.returns-in-err-n
-returns-in-err-n c =
-    rw c.from-residual.ensures (sym (signed_none c.args.signs c.args.s.now c.if-signs.true (omega (arith, ltb-false)) (omega arith) (sym c.in-err-n.ensures.value)))
+pub returns-in_err-n : goal.returns-in_err-n
+returns-in_err-n c =
+    rw c.from_residual.ensures (sym (signed_none c.args.signs c.args.s.now c.if-signs.true (omega (arith, ltb-false)) (omega arith) (sym c.in_err-n.ensures.value)))
 
 pub returns-then-n-eq0 : goal.returns-then-n-eq0
 returns-then-n-eq0 c =
-    sym (signed_zero c.args.signs c.args.s.now c.in-ok-n.n c.in-ok-n.rest.now c.if-signs.true (omega (arith, ltb-false)) (omega arith) (sym c.in-ok-n.ensures.value) c.if-n-eq0.true)
+    sym (signed_zero c.args.signs c.args.s.now c.in_ok-n-in-45.n c.in_ok-n-in-45.rest.now c.if-signs.true (omega (arith, ltb-false)) (omega arith) (sym c.in_ok-n-in-45.ensures.value) c.if-n-eq0.true)
 
 pub returns-else-n-eq0 : goal.returns-else-n-eq0
 returns-else-n-eq0 c =
-    let small = c.in-ok-n.ensures.small in
-    let e : to_z w64 (of_z w64 (pos 0 -ℤ to_z w64 c.in-ok-n.n)) ≡ neg_ℤ (pos c.in-ok-n.n) = omega (arith, ints) in
-    ap (λ z. Some (z, c.in-ok-n.rest.now)) e
-    ∙ sym (signed_some c.args.signs c.args.s.now c.in-ok-n.n c.in-ok-n.rest.now c.if-signs.true (omega (arith, ltb-false)) (omega arith) (sym c.in-ok-n.ensures.value) c.if-n-eq0.false)
+    let small = c.in_ok-n-in-45.ensures.small in
+    let e : to_z w64 (of_z w64 (pos 0 -ℤ to_z w64 c.in_ok-n-in-45.n)) ≡ neg_ℤ (pos c.in_ok-n-in-45.n) = omega (arith, ints) in
+    ap (λ z. Some (z, c.in_ok-n-in-45.rest.now)) e
+    ∙ sym (signed_some c.args.signs c.args.s.now c.in_ok-n-in-45.n c.in_ok-n-in-45.rest.now c.if-signs.true (omega (arith, ltb-false)) (omega arith) (sym c.in_ok-n-in-45.ensures.value) c.if-n-eq0.false)

@@ -8,5 +8,5 @@ returns-in-48-to-57 c =
     let d = at_digit c.args.s.now (omega arith) (omega arith) in
     record { value = cc; small = search rules; spelled = read_as_spelled c.args.s.now }
 
-pub returns-in-default : goal.returns-in-default
-returns-in-default c = record { value = search rules; small = search rules; spelled = read_as_spelled c.args.s.now }
+pub returns-in_default : goal.returns-in_default
+returns-in_default c = record { value = search rules; small = search rules; spelled = read_as_spelled c.args.s.now }

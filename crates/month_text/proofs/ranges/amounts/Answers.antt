@@ -4,4 +4,4 @@ use Rattle.month_text.proofs.ranges.amounts.Goals as goal
 
 pub returns : goal.returns
 returns g c =
-    record { value = search rules; range = all_within c.args.most c.in-Some.got.0 (sym c.if-not-all-bounded.ensures) }
+    record { value = search rules; range = all_within c.args.most c.in-Some.got.0 (sym c.if-not-all_bounded.ensures) }

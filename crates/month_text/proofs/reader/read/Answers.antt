@@ -21,8 +21,8 @@ returns c =
     let s = c.args.text.now in
     let e = cond-false _ (off_layout 0) (month_at s) (le-ltb 16384 (length s) (omega arith)) in
     record {
-      value = c.lines-of.ensures.value ∙ sym e;
-      range = c.lines-of.ensures.range;
+      value = c.lines_of.ensures.value ∙ sym e;
+      range = c.lines_of.ensures.range;
       spelled = as_spelled s;
       unique = one_spelling s;
       lines = line_count s;

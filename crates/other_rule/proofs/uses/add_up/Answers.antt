@@ -3,11 +3,11 @@ use borrow.Author.Differences.{ints}
 use Rattle.other_rule.proofs.ThreeMembers.{three_sum}
 use Rattle.other_rule.proofs.uses.add_up.Goals as goal
 
-pub overflow-add-result : goal.overflow-add-result
-overflow-add-result c = omega (arith, ints, c.requires 0, c.requires 1)
+pub overflow_add-result : goal.overflow_add-result
+overflow_add-result c = omega (arith, ints, c.requires 0, c.requires 1)
 
-pub overflow-add-result-2 : goal.overflow-add-result-2
-overflow-add-result-2 c = omega (arith, ints, c.requires 0, c.requires 1, c.requires 2)
+pub overflow_add-result-2 : goal.overflow_add-result-2
+overflow_add-result-2 c = omega (arith, ints, c.requires 0, c.requires 1, c.requires 2)
 
 pub returns : goal.returns
 returns c =

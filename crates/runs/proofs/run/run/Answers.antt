@@ -9,24 +9,24 @@ use Rattle.runs.proofs.run.run.Goals as goal
 
 pub returns : goal.returns
 returns g c =
-    let p = c.in-ok-open.ensures in
+    let p = c.in_ok-open.ensures in
     let o = p.after in
     let new = c.open.new.self in
     let file = c.args.file.now in
     let members = c.args.members in
     let first = c.args.first in
     let deeds = map (deed_of g.B.Book.month g.B.Book.count g.B.Book.held) c.args.orders.now in
-    let last = standing_of c.run-orders.new.ledger c.run-orders.new.file in
+    let last = standing_of c.run_orders.new.ledger c.run_orders.new.file in
     let orders = length c.args.orders.now in
     let outcomes = length c.args.outcomes.now in
     let cells = length c.args.statements.now in
     let t : terms_of g.R.Rule.shares g.R.Rule.step new ≡ terms (g.R.Rule.shares c.args.rule) g.R.Rule.step (cut_by c.args.sheet) members first = rw (o.0, o.1, o.3) refl in
     let s : standing_of new file ≡ standing no_heads (opened members first) file = rw (o.2, o.3) refl in
-    let fits = and_from (eqb outcomes orders) (eqb cells (orders * (13 * members))) (eq-eqb outcomes orders c.if-outcomes-orders.false) (sym c.if-not-cells-fit.ensures) in
+    let fits = and_from (eqb outcomes orders) (eqb cells (orders * (13 * members))) (eq-eqb outcomes orders c.if-outcomes-orders.false) (sym c.if-not-cells_fit.ensures) in
     record {
       told = p.told ∙ sym (cond-true (eqb outcomes orders && eqb cells (orders * (13 * members))) _ _ fits);
       ran =
-          subst (λ (u : Standing). Ran (terms (g.R.Rule.shares c.args.rule) g.R.Rule.step (cut_by c.args.sheet) members first) (record { stands = u; history = [] }) deeds c.run-orders.new.outcomes c.args.statements.now c.run-orders.new.statements last) s
-          (subst (λ (u : Terms). Ran u (record { stands = standing_of new file; history = [] }) deeds c.run-orders.new.outcomes c.args.statements.now c.run-orders.new.statements last) t c.run-orders.ensures.ran);
-      same = (c.run-orders.ensures.same.0 ∙ o.0, c.run-orders.ensures.same.1 ∙ o.1);
+          subst (λ (u : Standing). Ran (terms (g.R.Rule.shares c.args.rule) g.R.Rule.step (cut_by c.args.sheet) members first) (record { stands = u; history = [] }) deeds c.run_orders.new.outcomes c.args.statements.now c.run_orders.new.statements last) s
+          (subst (λ (u : Terms). Ran u (record { stands = standing_of new file; history = [] }) deeds c.run_orders.new.outcomes c.args.statements.now c.run_orders.new.statements last) t c.run_orders.ensures.ran);
+      same = (c.run_orders.ensures.same.0 ∙ o.0, c.run_orders.ensures.same.1 ∙ o.1);
     }

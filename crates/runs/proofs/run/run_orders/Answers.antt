@@ -8,17 +8,17 @@ use Rattle.runs.proofs.Running.{running_none, running_step, running_end, row_fit
 use Rattle.runs.proofs.run.run_orders.Given as given
 use Rattle.runs.proofs.run.run_orders.Goals as goal
 
-pub overflow-mul-start : goal.overflow-mul-start
-overflow-mul-start g c = omega (arith, row_fits c.loop-i.i (length c.args.orders.now) c.members.result c.args.ledger.now.accounts.members (length c.args.statements.now) (omega arith) c.requires.cells c.members.ensures)
+pub overflow_mul-start : goal.overflow_mul-start
+overflow_mul-start g c = omega (arith, row_fits c.loop-i.i (length c.args.orders.now) c.members.result c.args.ledger.now.accounts.members (length c.args.statements.now) (omega arith) c.requires.cells c.members.ensures)
 
-pub overflow-add-end : goal.overflow-add-end
-overflow-add-end g c = omega (arith, row_fits c.loop-i.i (length c.args.orders.now) c.members.result c.args.ledger.now.accounts.members (length c.args.statements.now) (omega arith) c.requires.cells c.members.ensures)
+pub overflow_add-end : goal.overflow_add-end
+overflow_add-end g c = omega (arith, row_fits c.loop-i.i (length c.args.orders.now) c.members.result c.args.ledger.now.accounts.members (length c.args.statements.now) (omega arith) c.requires.cells c.members.ensures)
 
-pub offset-bounds-statements-start : goal.offset-bounds-statements-start
-offset-bounds-statements-start g c = omega (arith, row_fits c.loop-i.i (length c.args.orders.now) c.members.result c.args.ledger.now.accounts.members (length c.args.statements.now) (omega arith) c.requires.cells c.members.ensures)
+pub offset_bounds-statements-start : goal.offset_bounds-statements-start
+offset_bounds-statements-start g c = omega (arith, row_fits c.loop-i.i (length c.args.orders.now) c.members.result c.args.ledger.now.accounts.members (length c.args.statements.now) (omega arith) c.requires.cells c.members.ensures)
 
-pub slice-bounds-cells-end : goal.slice-bounds-cells-end
-slice-bounds-cells-end g c =
+pub slice_bounds-cells-end : goal.slice_bounds-cells-end
+slice_bounds-cells-end g c =
     let w = 13 * c.members.result in
     let p : c.loop-i.i * w + w ≤ length c.loop-i.statements = omega (arith, row_fits c.loop-i.i (length c.args.orders.now) c.members.result c.args.ledger.now.accounts.members (length c.args.statements.now) (omega arith) c.requires.cells c.members.ensures, c.loop-i.auto.statements) in
     p
@@ -37,19 +37,19 @@ loop-i-preserved g c =
     let i = c.loop-i.i in
     let r = c.members.result in
     let inv = c.loop-i.invariant in
-    let p = c.carry-out.ensures in
+    let p = c.carry_out.ensures in
     let d = deed c.index-orders-i.result in
     let s = standing_of c.loop-i.ledger c.loop-i.file in
     let same : terms_of g.R.Rule.shares g.R.Rule.step c.loop-i.ledger ≡ t = rw (inv.0, inv.1, inv.2.kept.peopled, inv.2.kept.begun) refl in
-    let out = subst (λ (u : Terms). CarriedOut u d s (standing_of c.carry-out.new.ledger c.carry-out.new.file) (outcome_told c.carry-out.result)) same p.carried in
+    let out = subst (λ (u : Terms). CarriedOut u d s (standing_of c.carry_out.new.ledger c.carry_out.new.file) (outcome_told c.carry_out.result)) same p.carried in
     let row = p.cells ∙ ap (λ (u : Terms). cells_after u s d (take (i * (13 * r) + 13 * r - i * (13 * r)) (drop (i * (13 * r)) c.loop-i.statements))) same in
     let n = length-map orders deed in (
       p.same.0 ∙ inv.0,
       p.same.1 ∙ inv.1,
-      running_step t (record { stands = standing_of l c.args.file.now; history = [] }) (map deed orders) i (i * (13 * r)) (i * (13 * r) + 13 * r - i * (13 * r)) c.loop-i.outcomes c.args.statements.now c.loop-i.statements c.carry-out.new.cells s (standing_of c.carry-out.new.ledger c.carry-out.new.file) d c.carry-out.result
+      running_step t (record { stands = standing_of l c.args.file.now; history = [] }) (map deed orders) i (i * (13 * r)) (i * (13 * r) + 13 * r - i * (13 * r)) c.loop-i.outcomes c.args.statements.now c.loop-i.statements c.carry_out.new.cells s (standing_of c.carry_out.new.ledger c.carry_out.new.file) d c.carry_out.result
           (ap (λ (m : ℕ). i * (13 * m)) c.members.ensures) (omega (arith, c.members.ensures)) inv.2 (omega (arith, n)) (omega (arith, c.requires.outcomes, c.loop-i.auto.outcomes))
           (omega (arith, row_fits i (length orders) l.accounts.members l.accounts.members (length c.args.statements.now) (omega arith) c.requires.cells refl, c.loop-i.auto.statements))
-          (omega (arith, c.carry-out.auto.cells, c.members.ensures)) (read_means deed orders i c.index-orders-i.result no_deed (omega arith) c.index-orders-i.is) out row,
+          (omega (arith, c.carry_out.auto.cells, c.members.ensures)) (read_means deed orders i c.index-orders-i.result no_deed (omega arith) c.index-orders-i.is) out row,
     )
 
 pub returns : goal.returns

@@ -7,7 +7,7 @@ pub loop-unit-preserved : goal.loop-unit-preserved
 loop-unit-preserved c =
     let l : c.loop-unit.unit-index < length c.args.units.now = omega arith in
     let m = sum_by_more (λ x. x) c.args.units.now c.loop-unit.unit-index 0 l in
-    omega (arith, m, c.loop-unit.invariant, c.saturating-add-total.ensures)
+    omega (arith, m, c.loop-unit.invariant, c.saturating_add-total.ensures)
 
 pub returns : goal.returns
 returns c =

@@ -6,9 +6,9 @@ use Rattle.sharing.proofs.posted.post.Goals as goal
 
 pub loop-i-preserved : goal.loop-i-preserved
 loop-i-preserved c =
-    let e = to_z-of_z w64 c.posted-share.result (record { sfits = c.posted-share.type-inv }) in
-    map_step (posted_share (to_z w64 (of_z w64 c.args.rate))) c.args.units.now c.loop-i.out c.loop-i.i (to_z w64 (of_z w64 c.posted-share.result))
-    (omega arith) (omega arith) (e ∙ c.posted-share.ensures) c.loop-i.invariant
+    let e = to_z-of_z w64 c.posted_share.result (record { sfits = c.posted_share.type_inv }) in
+    map_step (posted_share (to_z w64 (of_z w64 c.args.rate))) c.args.units.now c.loop-i.out c.loop-i.i (to_z w64 (of_z w64 c.posted_share.result))
+    (omega arith) (omega arith) (e ∙ c.posted_share.ensures) c.loop-i.invariant
 
 pub returns : goal.returns
 returns c =

@@ -5,8 +5,8 @@ use Rattle.cents.proofs.Parts.{parts_more, parts_end}
 use Rattle.sharing.specs.RatioShares.{run_more, part_fits}
 use Rattle.sharing.proofs.ratio.split.Goals as goal
 
-pub overflow-add-run : goal.overflow-add-run
-overflow-add-run c = omega (arith, (run_more c.args.units.now c.loop-i.i c.loop-i.run c.from-run.result c.args.total (omega arith) c.loop-i.invariant.0 c.from-run.ensures c.requires.whole).1)
+pub overflow_add-run : goal.overflow_add-run
+overflow_add-run c = omega (arith, (run_more c.args.units.now c.loop-i.i c.loop-i.run c.from-run.result c.args.total (omega arith) c.loop-i.invariant.0 c.from-run.ensures c.requires.whole).1)
 
 module _ (c : goal.After-taken-upto) where
   -- the pool, as the code passes it
@@ -26,11 +26,11 @@ module _ (c : goal.After-taken-upto) where
   unfolding a
   upto =
       let e = ap (taken a c.args.total) {x = min (c.loop-i.run + c.from-run.result) c.args.total} {y = c.loop-i.run + c.from-run.result} (omega (arith, more.1)) in
-      to_z-of_z w64 c.taken-upto.result (record { sfits = c.taken-upto.type-inv }) ∙ c.taken-upto.ensures.value ∙ e
+      to_z-of_z w64 c.taken-upto.result (record { sfits = c.taken-upto.ok }) ∙ c.taken-upto.ensures.value ∙ e
 
-pub overflow-sub-out : goal.overflow-sub-out
+pub overflow_sub-out : goal.overflow_sub-out
 unfolding a
-overflow-sub-out c = (part_fits (a c) c.args.total c.loop-i.run c.from-run.result _ _ (fits c) (more c).1 (upto c) c.loop-i.invariant.1).0
+overflow_sub-out c = (part_fits (a c) c.args.total c.loop-i.run c.from-run.result _ _ (fits c) (more c).1 (upto c) c.loop-i.invariant.1).0
 
 pub loop-i-preserved : goal.loop-i-preserved
 unfolding a

@@ -4,15 +4,15 @@ use Rattle.statement.specs.Checks.{pools_rule}
 use Rattle.statement.proofs.Columns.{pools_stop, pools_more, pools_end}
 use Rattle.statement.proofs.checks.check_pools.Goals as goal
 
-pub returns-then-unsigned-abs-gt-MOST-CENTS : goal.returns-then-unsigned-abs-gt-MOST-CENTS
-returns-then-unsigned-abs-gt-MOST-CENTS c =
+pub returns-then-unsigned_abs-gt-MOST_CENTS : goal.returns-then-unsigned_abs-gt-MOST_CENTS
+returns-then-unsigned_abs-gt-MOST_CENTS c =
     let e = ap nat_abs (to_z-of_z w64 (get_or c.args.pools c.loop-component.component (pos 0)) (search rules)) in
-    rw c.refuses-at.ensures (pools_stop c.args.pools c.loop-component.component (pools_rule c.args.pools 0) (omega arith) c.loop-component.invariant (omega (arith, c.unsigned-abs.ensures, e)))
+    rw c.refuses_at.ensures (pools_stop c.args.pools c.loop-component.component (pools_rule c.args.pools 0) (omega arith) c.loop-component.invariant (omega (arith, c.unsigned_abs.ensures, e)))
 
 pub loop-component-preserved : goal.loop-component-preserved
 loop-component-preserved c =
     let e = ap nat_abs (to_z-of_z w64 (get_or c.args.pools c.loop-component.component (pos 0)) (search rules)) in
-    pools_more c.args.pools c.loop-component.component (pools_rule c.args.pools 0) (omega arith) c.loop-component.invariant (omega (arith, c.unsigned-abs.ensures, e))
+    pools_more c.args.pools c.loop-component.component (pools_rule c.args.pools 0) (omega arith) c.loop-component.invariant (omega (arith, c.unsigned_abs.ensures, e))
 
 pub returns : goal.returns
 returns c = pools_end c.args.pools c.loop-component.component (pools_rule c.args.pools 0) (omega arith) c.loop-component.invariant

@@ -6,7 +6,7 @@ use Rattle.statement.proofs.reading.read_book.Goals as goal
 pub loop-i-preserved : goal.loop-i-preserved
 loop-i-preserved g c =
     let n : length c.args.out.now ≡ g.B.Book.count c.args.book.now = omega (arith, c.members.ensures) in
-    read_more (g.B.Book.held c.args.book.now) (g.B.Book.count c.args.book.now) c.loop-i.i c.loop-i.out c.in-ok-out.field-0 (omega (arith, n)) (omega arith) c.loop-i.invariant c.in-ok-out.ensures
+    read_more (g.B.Book.held c.args.book.now) (g.B.Book.count c.args.book.now) c.loop-i.i c.loop-i.out c.in_ok-out.field-0 (omega (arith, n)) (omega arith) c.loop-i.invariant c.in_ok-out.ensures
 
 pub returns : goal.returns
 returns g c =

@@ -4,18 +4,9 @@ use Rattle.std.proofs.lemmas.List.{length-set}
 use Rattle.bottom_books.proofs.Cells.{put_small, put_cell_lem}
 use Rattle.bottom_books.proofs.unit_table.UnitTable.put.Goals as goal
 
-pub invariant-of-self : goal.invariant-of-self
-invariant-of-self c =
-    let t = c.args.self.now in (
-      t.dated,
-      (
-        t.peopled,
-        (
-          simp length-set t.long,
-          (put_small t.rows c.args.kind c.args.member c.args.units (omega (arith, t.long, t.peopled.1, c.requires.member)) c.requires.units t.small, tt),
-        ),
-      ),
-    )
+pub invariant_of-self : goal.invariant_of-self
+invariant_of-self c =
+    let t = c.args.self.now in record { dated = t.dated; peopled = t.peopled; long = simp length-set t.long; small = put_small t.rows c.args.kind c.args.member c.args.units (omega (arith, t.long, t.peopled.1, c.requires.member)) c.requires.units t.small }
 
 pub returns : goal.returns
 returns c =

@@ -3,11 +3,11 @@ use Rattle.refusal.specs.Answers.{bare}
 use Rattle.bottom_books.proofs.Rows.{rows_stop, rows_more, rows_end}
 use Rattle.bottom_books.proofs.unit_table.calls.read_rows.Goals as goal
 
-pub returns-in-default : goal.returns-in-default
-returns-in-default g c =
+pub returns-in_default : goal.returns-in_default
+returns-in_default g c =
     let reads = g.M.Measure.reads c.args.measure.now in
     record {
-      told = rw c.refuses.ensures (rows_stop reads c.args.rows.now c.index-rows-i.result c.loop-i.i c.loop-i.out (omega arith) c.loop-i.invariant (c.in-default.ensures ∙ ap reads c.index-rows-i.is));
+      told = rw c.refuses.ensures (rows_stop reads c.args.rows.now c.index-rows-i.result c.loop-i.i c.loop-i.out (omega arith) c.loop-i.invariant (c.in_default.ensures ∙ ap reads c.index-rows-i.is));
       rows = tt;
     }
 

@@ -25,22 +25,17 @@ module _ (used at kind member units : ℕ) (list : List Fix) (room : used ≤ 64
       let u = used_length used list (omega arith) in
       put_list used at list fix (omega arith) (omega (arith, e, u, place_le (take used list) kind member)) (omega arith) ∙ ap (λ (p : ℕ). placed (take used list) p fix) e
 
-pub invariant-of-self : goal.invariant-of-self
+pub invariant_of-self : goal.invariant_of-self
 unfolding fix
-invariant-of-self c =
+invariant_of-self c =
     let s = c.args.self.now in
     let n = now_list s.used c.place-at.result c.args.kind c.args.member c.args.units s.list s.room s.long c.place-at.ensures (omega arith) in
-    let u : c.max-used.result ≡ max s.used (c.place-at.result + 1) = c.max-used.ensures in (
-      omega (arith, u, s.room),
-      (
-        simp length-set s.long,
-        (
-          ap (λ (k : ℕ). fixes_small (take k (set s.list c.place-at.result (record { kind = c.args.kind; member = c.args.member; units = c.args.units })))) u
-              ∙ ap fixes_small n ∙ placed_small (take s.used s.list) (place_of (take s.used s.list) c.args.kind c.args.member) _ c.requires s.small,
-          tt,
-        ),
-      ),
-    )
+    let u : c.max-used.result ≡ max s.used (c.place-at.result + 1) = c.max-used.ensures in record {
+      room = omega (arith, u, s.room);
+      long = simp length-set s.long;
+      small = ap (λ (k : ℕ). fixes_small (take k (set s.list c.place-at.result (record { kind = c.args.kind; member = c.args.member; units = c.args.units })))) u
+          ∙ ap fixes_small n ∙ placed_small (take s.used s.list) (place_of (take s.used s.list) c.args.kind c.args.member) _ c.requires s.small;
+    }
 
 pub returns : goal.returns
 unfolding fix

@@ -5,37 +5,37 @@ use Rattle.ferc.specs.Years.{charges}
 use Rattle.ferc.proofs.Charges.{month_small, month_done}
 use Rattle.ferc.proofs.year.FercYear.bill.Goals as goal
 
-pub month-cents-requires : goal.month-cents-requires
-month-cents-requires g c =
+pub month_cents-requires : goal.month_cents-requires
+month_cents-requires g c =
     let r = to_z-of_z w64 c.args.self.now.rate (search rules) in
     let held = g.B.Book.held c.args.book.now in
     let count = g.B.Book.count c.args.book.now in
-    month_small c.args.self.now.rate held c.args.self.now.rated (λ k m. g.met.B.Book.bounded c.args.book.now k m) count (g.met.B.Book.peopled c.args.book.now).1 c.write-charges.new.statement
-    (c.in-ok-write-charges.ensures.cells ∙ ap (λ (z : ℤ). charges z held 0 count) r)
+    month_small c.args.self.now.rate held c.args.self.now.rated (λ k m. g.met.B.Book.bounded c.args.book.now k m) count (g.met.B.Book.peopled c.args.book.now).1 c.write_charges.new.statement
+    (c.in_ok-write_charges.ensures.cells ∙ ap (λ (z : ℤ). charges z held 0 count) r)
 
-pub overflow-add-billed : goal.overflow-add-billed
-overflow-add-billed g c =
+pub overflow_add-billed : goal.overflow_add-billed
+overflow_add-billed g c =
     let b = to_z-of_z w64 c.args.self.now.billed (search rules) in
-    let m = to_z-of_z w64 c.month-cents.result (record { sfits = c.month-cents.type-inv }) in
-    omega (arith, ints, b, m, c.args.self.now.small, c.args.self.now.few, c.month-cents.ensures.small)
+    let m = to_z-of_z w64 c.month_cents.result (record { sfits = c.month_cents.ok }) in
+    omega (arith, ints, b, m, c.args.self.now.small, c.args.self.now.few, c.month_cents.ensures.small)
 
-pub invariant-of-self : goal.invariant-of-self
-invariant-of-self g c =
+pub invariant_of-self : goal.invariant_of-self
+invariant_of-self g c =
     let r = to_z-of_z w64 c.args.self.now.rate (search rules) in
     let b = to_z-of_z w64 c.args.self.now.billed (search rules) in
-    let m = to_z-of_z w64 c.month-cents.result (record { sfits = c.month-cents.type-inv }) in
-    (rw r c.args.self.now.rated, (omega arith, (omega (arith, ints, b, m, c.args.self.now.small, c.args.self.now.few, c.month-cents.ensures.small), tt)))
+    let m = to_z-of_z w64 c.month_cents.result (record { sfits = c.month_cents.ok }) in
+    (rw r c.args.self.now.rated, (omega arith, (omega (arith, ints, b, m, c.args.self.now.small, c.args.self.now.few, c.month_cents.ensures.small), tt)))
 
 pub returns : goal.returns
 returns g c =
     let year = c.args.self.now in
     let r = to_z-of_z w64 year.rate (search rules) in
     let b = to_z-of_z w64 year.billed (search rules) in
-    let m = to_z-of_z w64 c.month-cents.result (record { sfits = c.month-cents.type-inv }) in
+    let m = to_z-of_z w64 c.month_cents.result (record { sfits = c.month_cents.ok }) in
     let held = g.B.Book.held c.args.book.now in
     let count = g.B.Book.count c.args.book.now in
     record {
       told = month_done year.months (length c.args.statement.now) count (omega (arith, c.members.ensures)) (omega arith);
-      done = (c.in-ok-write-charges.ensures.cells ∙ ap (λ (z : ℤ). charges z held 0 count) r, r, refl, omega (arith, ints, b, m, year.small, year.few, c.month-cents.ensures.value, c.month-cents.ensures.small));
-      year = λ history h. (omega (arith, h.0), omega (arith, ints, b, m, year.small, year.few, c.month-cents.ensures.value, c.month-cents.ensures.small, h.1));
+      done = (c.in_ok-write_charges.ensures.cells ∙ ap (λ (z : ℤ). charges z held 0 count) r, r, refl, omega (arith, ints, b, m, year.small, year.few, c.month_cents.ensures.value, c.month_cents.ensures.small));
+      year = λ history h. (omega (arith, h.0), omega (arith, ints, b, m, year.small, year.few, c.month_cents.ensures.value, c.month_cents.ensures.small, h.1));
     }

@@ -20,19 +20,19 @@ close-requires g c =
     let self = c.args.self.now in
     let book = c.args.book.now in
     let b = reading (g.B.Book.month book) (g.B.Book.count book) (g.B.Book.held book) in
-    let p = bill_passed self.accounts (sums c.costs-costs.result (balances self.accounts)) b (length c.args.file.now) (length c.args.statement.now) (g.met.B.Book.peopled book).0 (g.met.B.Book.peopled book).1 c.in-ok-charges.ensures.told in
+    let p = bill_passed self.accounts (sums c.costs-costs.result (balances self.accounts)) b (length c.args.file.now) (length c.args.statement.now) (g.met.B.Book.peopled book).0 (g.met.B.Book.peopled book).1 c.in_ok-charges.ensures.told in
     record { long = self.long; slots = self.slots; month = omega (arith, p.month, (g.met.B.Book.dated book).1) }
 
-pub invariant-of-self-2 : goal.invariant-of-self-2
-invariant-of-self-2 g c =
+pub invariant_of-self-2 : goal.invariant_of-self-2
+invariant_of-self-2 g c =
     let self = c.args.self.now in
     let book = c.args.book.now in
     let b = reading (g.B.Book.month book) (g.B.Book.count book) (g.B.Book.held book) in
     let pools = sums c.costs-costs.result (balances self.accounts) in
     let sh = g.R.Rule.shares self.rule in
-    let p = bill_passed self.accounts pools b (length c.args.file.now) (length c.args.statement.now) (g.met.B.Book.peopled book).0 (g.met.B.Book.peopled book).1 c.in-ok-charges.ensures.told in
-    let charges = c.in-ok-charges.charges in
-    let e = c.in-ok-charges.ensures.done.0 in
+    let p = bill_passed self.accounts pools b (length c.args.file.now) (length c.args.statement.now) (g.met.B.Book.peopled book).0 (g.met.B.Book.peopled book).1 c.in_ok-charges.ensures.told in
+    let charges = c.in_ok-charges.charges in
+    let e = c.in_ok-charges.ensures.done.0 in
     let lc : length charges ≡ 13 = ap length e ∙ components_length sh pools (rows_read b) 13 in
     let rest = rests_small sh g.R.Rule.step g.met.R.Rule.stepped (g.met.R.Rule.long self.rule) (g.met.R.Rule.idle self.rule) (g.met.R.Rule.fair self.rule) pools (rows_read b) (omega (arith, rows_length b.held 0 b.count, (g.met.B.Book.peopled book).1)) p.pools_in p.units_in in
     let small : (i : ℕ) → i < 13 → nat_abs (get_or charges i no_charge).balance ≤ 4000000000 = λ i l. subst (λ (xs : List ComponentCharge). nat_abs (get_or xs i no_charge).balance ≤ 4000000000) (sym e) (rest i l) in
@@ -66,12 +66,12 @@ returns g c =
     let s = standing_of self file in
     let costs = c.costs-costs.result in
     let value = c.costs-costs.ensures.value in
-    let charges = c.in-ok-charges.charges in
-    let did = c.in-ok-charges.ensures.done in
-    let done' = bill_done sh cut s b costs value (length memory) c.in-ok-charges.ensures.told in
+    let charges = c.in_ok-charges.charges in
+    let did = c.in_ok-charges.ensures.done in
+    let done' = bill_done sh cut s b costs value (length memory) c.in_ok-charges.ensures.told in
     let ec = bill_charges sh cut s b costs value charges did.0 in
-    let ew = bill_cells sh cut s b costs value c.charge-book.new.statement did.1 in
-    let es = bill_standing sh cut s b costs value c.zero-self.result.amounts c.charge-book.new.statement c.close.new.self c.charge-book.new.file charges c.zero-self.ensures c.close.ensures did.2 ec ew in
+    let ew = bill_cells sh cut s b costs value c.charge_book.new.statement did.1 in
+    let es = bill_standing sh cut s b costs value c.zero-self.result.amounts c.charge_book.new.statement c.close.new.self c.charge_book.new.file charges c.zero-self.ensures c.close.ensures did.2 ec ew in
     let told = ap done ec ∙ ap (λ (t : Told Left). next t (λ left. done left.components)) done' in
     let stands = es ∙ ap (λ (t : Told Left). after t (λ left. left.standing) s) done' in
     let cells = ew ∙ ap (λ (t : Told Left). after t (λ left. left.cells) memory) done' in
@@ -83,5 +83,5 @@ returns g c =
       standing = stands;
       cells = cells;
       same = (refl, refl);
-      law = λ h k. bill_keeps (terms_of g.R.Rule.shares g.R.Rule.step self) rule h s (standing c.zero-self.result.amounts c.close.new.self c.charge-book.new.file) b memory c.charge-book.new.statement (Ok charges) (g.met.B.Book.peopled book).0 (g.met.B.Book.peopled book).1 whole thirteen self.long self.slots told stands cells k;
+      law = λ h k. bill_keeps (terms_of g.R.Rule.shares g.R.Rule.step self) rule h s (standing c.zero-self.result.amounts c.close.new.self c.charge_book.new.file) b memory c.charge_book.new.statement (Ok charges) (g.met.B.Book.peopled book).0 (g.met.B.Book.peopled book).1 whole thirteen self.long self.slots told stands cells k;
     }

@@ -16,18 +16,18 @@ use Rattle.ledger.specs.Ledgers.{standing_of, terms_of}
 use Rattle.std.proofs.lemmas.Result.{err_from_is_err_and}
 use Rattle.ledger.proofs.ledger.Ledger.resettle.Goals as goal
 
-pub invariant-of-self-2 : goal.invariant-of-self-2
-invariant-of-self-2 g c =
+pub invariant_of-self-2 : goal.invariant_of-self-2
+invariant_of-self-2 g c =
     let self = c.args.self.now in
     let a = self.accounts in
-    let r : reconciled c.args.component ≡ true = sym c.if-not-is-reconciled.ensures in
+    let r : reconciled c.args.component ≡ true = sym c.if-not-is_reconciled.ensures in
     let p = reconciled_place c.args.component r in
-    let left = c.in-ok-left.left in
+    let left = c.in_ok-left.left in
     let z = to_z-of_z w64 left (search rules) in
     let book = c.args.book.now in
     let b = reading (g.B.Book.month book) (g.B.Book.count book) (g.B.Book.held book) in
     let i = c.args.component - 1 in
-    let small = (change_passed (i + 1) (units_read b i) (shares_again (g.R.Rule.shares self.rule) a b i) (account_at a i).balance (lines_at a c.args.file.now b i) left c.in-ok-left.ensures.told).3 in
+    let small = (change_passed (i + 1) (units_read b i) (shares_again (g.R.Rule.shares self.rule) a b i) (account_at a i).balance (lines_at a c.args.file.now b i) left c.in_ok-left.ensures.told).3 in
     let e = c.settle.ensures ∙ ap (λ (x : ℤ). settled (c.args.component - 1) x a) z in
     rw e (
       (self.peopled.0, self.peopled.1),
@@ -58,32 +58,32 @@ returns g c =
     let s = standing_of self file in
     let component = c.args.component in
     let i = component - 1 in
-    let r : reconciled component ≡ true = sym c.if-not-is-reconciled.ensures in
+    let r : reconciled component ≡ true = sym c.if-not-is_reconciled.ensures in
     let p = reconciled_place component r in
-    let m : done tt ≡ memory_rule a.members (length file) (length memory) a.members b.count = c.in-ok-check-memory.ensures ∙ ap (memory_rule a.members (length file) (length memory) a.members) c.members.ensures in
-    let o : is_on_file a b.month ≡ true = sym (c.if-not-is-on-file.ensures ∙ ap (is_on_file a) c.month.ensures) in
+    let m : done tt ≡ memory_rule a.members (length file) (length memory) a.members b.count = c.in_ok-check_memory.ensures ∙ ap (memory_rule a.members (length file) (length memory) a.members) c.members.ensures in
+    let o : is_on_file a b.month ≡ true = sym (c.if-not-is_on_file.ensures ∙ ap (is_on_file a) c.month.ensures) in
     let rule : LawfulRule (terms_of g.R.Rule.shares g.R.Rule.step self) = record { stepped = g.met.R.Rule.stepped; long = g.met.R.Rule.long self.rule; idle = g.met.R.Rule.idle self.rule; fair = g.met.R.Rule.fair self.rule } in
     let change : ℕ → Told ℤ = λ n. change_rule n (units_read b i) (shares_again sh a b i) (account_at a i).balance (lines_at a file b i) in
-    let left = c.in-ok-left.left in
+    let left = c.in_ok-left.left in
     let z = to_z-of_z w64 left (search rules) in
-    let h = subst (λ (n : ℕ). done left ≡ change n) p.1 c.in-ok-left.ensures.told in
+    let h = subst (λ (n : ℕ). done left ≡ change n) p.1 c.in_ok-left.ensures.told in
     let d = resettle_is sh s b component (length memory) (done left) r m o h in
     let e = c.settle.ensures ∙ ap (λ (x : ℤ). settled i x a) z in
-    let q = c.in-ok-left.ensures.done in
-    let new = standing self.heads.amounts c.settle.new.self c.resettle-lines.new.file in
+    let q = c.in_ok-left.ensures.done in
+    let new = standing self.heads.amounts c.settle.new.self c.resettle_lines.new.file in
     let told = ap bare d in
-    let stands = ap (λ (x : Accounts). standing self.heads.amounts x c.resettle-lines.new.file) e ∙ ap (λ (f : List Line). standing self.heads.amounts (settled i left a) f) q.0 ∙ ap (λ (t : Told Left). after t (λ left. left.standing) s) d in
+    let stands = ap (λ (x : Accounts). standing self.heads.amounts x c.resettle_lines.new.file) e ∙ ap (λ (f : List Line). standing self.heads.amounts (settled i left a) f) q.0 ∙ ap (λ (t : Told Left). after t (λ left. left.standing) s) d in
     let cells = q.1 ∙ ap (λ (t : Told Left). after t (λ left. left.cells) memory) d in
     record {
       told = told;
       standing = stands;
       cells = cells;
       same = (refl, refl);
-      law = λ h k. resettle_keeps (terms_of g.R.Rule.shares g.R.Rule.step self) rule h s new b component memory c.resettle-lines.new.statement (Ok tt) self.long told stands cells k;
+      law = λ h k. resettle_keeps (terms_of g.R.Rule.shares g.R.Rule.step self) rule h s new b component memory c.resettle_lines.new.statement (Ok tt) self.long told stands cells k;
     }
 
-pub returns-in-err-left : goal.returns-in-err-left
-returns-in-err-left g c =
+pub returns-in_err-left : goal.returns-in_err-left
+returns-in_err-left g c =
     let self = c.args.self.now in
     let a = self.accounts in
     let file = c.args.file.now in
@@ -94,18 +94,18 @@ returns-in-err-left g c =
     let s = standing_of self file in
     let component = c.args.component in
     let i = component - 1 in
-    let r : reconciled component ≡ true = sym c.if-not-is-reconciled.ensures in
+    let r : reconciled component ≡ true = sym c.if-not-is_reconciled.ensures in
     let p = reconciled_place component r in
-    let m : done tt ≡ memory_rule a.members (length file) (length memory) a.members b.count = c.in-ok-check-memory.ensures ∙ ap (memory_rule a.members (length file) (length memory) a.members) c.members.ensures in
-    let o : is_on_file a b.month ≡ true = sym (c.if-not-is-on-file.ensures ∙ ap (is_on_file a) c.month.ensures) in
+    let m : done tt ≡ memory_rule a.members (length file) (length memory) a.members b.count = c.in_ok-check_memory.ensures ∙ ap (memory_rule a.members (length file) (length memory) a.members) c.members.ensures in
+    let o : is_on_file a b.month ≡ true = sym (c.if-not-is_on_file.ensures ∙ ap (is_on_file a) c.month.ensures) in
     let rule : LawfulRule (terms_of g.R.Rule.shares g.R.Rule.step self) = record { stepped = g.met.R.Rule.stepped; long = g.met.R.Rule.long self.rule; idle = g.met.R.Rule.idle self.rule; fair = g.met.R.Rule.fair self.rule } in
     let change : ℕ → Told ℤ = λ n. change_rule n (units_read b i) (shares_again sh a b i) (account_at a i).balance (lines_at a file b i) in
-    let f = err_from_is_err_and c.from-residual-in-err-left.result c.from-residual-in-err-left.ensures.1 in
-    let fault = c.in-err-left.field-0.0 in
-    let h = subst (λ (n : ℕ). answer {T = ℤ} (Err fault) ≡ change n) p.1 c.in-err-left.ensures.told in
+    let f = err_from_is_err_and c.from_residual-in_err-left.result c.from_residual-in_err-left.ensures.1 in
+    let fault = c.in_err-left.field-0.0 in
+    let h = subst (λ (n : ℕ). answer {T = ℤ} (Err fault) ≡ change n) p.1 c.in_err-left.ensures.told in
     let d = resettle_is sh s b component (length memory) (answer {T = ℤ} (Err fault)) r m o h in
-    let q = c.in-err-left.ensures.done in
-    let new = standing self.heads.amounts a c.resettle-lines.new.file in
+    let q = c.in_err-left.ensures.done in
+    let new = standing self.heads.amounts a c.resettle_lines.new.file in
     let told = ap bare d in
     let stands = ap (λ (f : List Line). standing self.heads.amounts a f) q.0 ∙ ap (λ (t : Told Left). after t (λ left. left.standing) s) d in
     let cells = q.1 ∙ ap (λ (t : Told Left). after t (λ left. left.cells) memory) d in
@@ -114,5 +114,5 @@ returns-in-err-left g c =
       standing = stands;
       cells = cells;
       same = (refl, refl);
-      law = λ h k. resettle_keeps (terms_of g.R.Rule.shares g.R.Rule.step self) rule h s new b component memory c.resettle-lines.new.statement (Err fault) self.long told stands cells k;
+      law = λ h k. resettle_keeps (terms_of g.R.Rule.shares g.R.Rule.step self) rule h s new b component memory c.resettle_lines.new.statement (Err fault) self.long told stands cells k;
     })

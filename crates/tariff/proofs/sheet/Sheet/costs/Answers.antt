@@ -19,17 +19,17 @@ split_small c k h = leb-true _ 1000 (pass_at (λ n. leb n 1000) c.split-split.re
 
 pub returns : goal.returns
 returns c =
-    let five = c.service-costs.result in
+    let five = c.service_costs.result in
     let back : ℕ → ℤ = λ k. to_z w64 (of_z w64 (at five k)) in
     let sheet = c.args.self.now in
     let heads = c.args.heads.now.amounts in
     let v : c.joined.result ≡ costs sheet.division sheet.management sheet.split heads =
     c.joined.ensures
-    ∙ components_are five c.halves-second.result c.halves-third.result c.settlement-parts.result c.split-split.result (back 0) (back 1) (back 2) (back 3) (back 4)
+    ∙ components_are five c.halves-second.result c.halves-third.result c.settlement_parts.result c.split-split.result (back 0) (back 1) (back 2) (back 3) (back 4)
     (to_z-of_z w64 (at five 0) (search rules)) (to_z-of_z w64 (at five 1) (search rules)) (to_z-of_z w64 (at five 2) (search rules)) (to_z-of_z w64 (at five 3) (search rules)) (to_z-of_z w64 (at five 4) (search rules))
-    c.halves-second.ensures.parts c.halves-third.ensures.parts c.settlement-parts.ensures.parts
+    c.halves-second.ensures.parts c.halves-third.ensures.parts c.settlement_parts.ensures.parts
     ∙ ap (λ (s : List ℕ). components s five) c.split-split.ensures.parts
-    ∙ ap (components sheet.split) c.service-costs.ensures in
+    ∙ ap (components sheet.split) c.service_costs.ensures in
     let a = ap (λ (s : List ℕ). get_or s 0 0) c.split-split.ensures.parts in
     let b = ap (λ (s : List ℕ). get_or s 1 0) c.split-split.ensures.parts in
     let t = costs_sum sheet.division sheet.management sheet.split heads sheet.six sheet.four c.args.heads.now.long (omega (arith, sheet.divided)) (omega (arith, sheet.managed)) (omega (arith, split_small c 0 (omega arith))) (omega (arith, split_small c 1 (omega arith))) in

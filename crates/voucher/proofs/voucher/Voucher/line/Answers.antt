@@ -4,8 +4,8 @@ use Rattle.voucher.specs.Calls.{line_state}
 use Rattle.voucher.proofs.Lines.{line_done, line_small}
 use Rattle.voucher.proofs.voucher.Voucher.line.Goals as goal
 
-pub invariant-of-self : goal.invariant-of-self
-invariant-of-self c =
+pub invariant_of-self : goal.invariant_of-self
+invariant_of-self c =
     let s = line_small c.args.self.now.amounts c.args.head c.args.amount c.in-Some.sum (search rules) c.ranges.amount (search rules) c.in-Some.ensures c.args.self.now.small in
     (c.args.self.now.bounded, (search rules, (s, (search rules, tt))))
 
