@@ -23,7 +23,7 @@ loop-i-preserved c =
     let ls = c.args.lines.now in
     let i = c.loop-i.i in
     let z = to_z-of_z w64 (get_or ss i (pos 0)) (search rules) in
-    let r = to_z-of_z w64 c.difference.result (record { sfits = c.difference.type-inv }) in
+    let r = to_z-of_z w64 c.difference.result (record { sfits = c.difference.type_inv }) in
     front_more (pos 0) (differences ss ls) c.loop-i.out i _ (omega (arith, differences_length ss ls c.requires.lines)) (omega (arith, c.requires.out))
     (r ∙ c.difference.ensures ∙ ap (λ (x : ℤ). x -ℤ (get_or ls i no_line).cents) z ∙ sym (differences_at ss ls i c.requires.lines)) c.loop-i.invariant
 

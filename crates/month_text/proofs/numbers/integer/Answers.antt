@@ -3,9 +3,9 @@ use Rattle.std.proofs.lemmas.Int.{ints}
 use Rattle.month_text.proofs.Steps.{signed_none, signed_zero, signed_some}
 use Rattle.month_text.proofs.numbers.integer.Goals as goal
 
-pub returns-in_err-n : goal.returns-in_err-n
-returns-in_err-n c =
-    rw c.from_residual.ensures (sym (signed_none c.args.signs c.args.s.now c.if-signs.true (omega (arith, ltb-false)) (omega arith) (sym c.in_err-n.ensures.value)))
+pub returns-in_err-n-in-45 : goal.returns-in_err-n-in-45
+returns-in_err-n-in-45 c =
+    rw c.from_residual.ensures (sym (signed_none c.args.signs c.args.s.now c.if-signs.true (omega (arith, ltb-false)) (omega arith) (sym c.in_err-n-in-45.ensures.value)))
 
 pub returns-then-n-eq0 : goal.returns-then-n-eq0
 returns-then-n-eq0 c =

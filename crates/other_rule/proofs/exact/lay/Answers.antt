@@ -6,7 +6,7 @@ use Rattle.other_rule.proofs.exact.lay.Goals as goal
 
 pub loop-i-preserved : goal.loop-i-preserved
 loop-i-preserved c =
-    let e = to_z-of_z w64 c.exact_share.result (record { sfits = c.exact_share.type-inv }) in
+    let e = to_z-of_z w64 c.exact_share.result (record { sfits = c.exact_share.type_inv }) in
     map_step (exact_share (to_z w64 (of_z w64 c.args.pool)) c.args.total) c.args.units.now c.loop-i.out c.loop-i.i (to_z w64 (of_z w64 c.exact_share.result))
     (omega arith) (omega arith) (e ∙ c.exact_share.ensures) c.loop-i.invariant
 

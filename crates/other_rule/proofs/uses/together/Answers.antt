@@ -19,7 +19,7 @@ returns g c =
     let n : length c.args.units ≡ 3 = search rules in
     let p = to_z-of_z w64 c.args.pool c.ranges.pool in
     let o = laid_is c.args.units (pos 0 ∷ pos 0 ∷ pos 0 ∷ []) (g.R.Rule.shares c.args.rule.now (to_z w64 (of_z w64 c.args.pool)) c.args.units) c.share.new.out n c.share.ensures in
-    let v = to_z-of_z w64 c.add_up.result (record { sfits = c.add_up.type-inv }) ∙ c.add_up.ensures ∙ ap sum_z o ∙ ap (λ z. sum_z (g.R.Rule.shares c.args.rule.now z c.args.units)) p in
+    let v = to_z-of_z w64 c.add_up.result (record { sfits = c.add_up.type_inv }) ∙ c.add_up.ensures ∙ ap sum_z o ∙ ap (λ z. sum_z (g.R.Rule.shares c.args.rule.now z c.args.units)) p in
     let w = whole_near g.R.Rule.step c.args.pool c.args.units (g.R.Rule.shares c.args.rule.now c.args.pool c.args.units) (g.met.R.Rule.long c.args.rule.now c.args.pool c.args.units) (g.met.R.Rule.fair c.args.rule.now c.args.pool c.args.units) in
     record {
       value = v;

@@ -26,7 +26,7 @@ module _ (c : goal.After-taken-upto) where
   unfolding a
   upto =
       let e = ap (taken a c.args.total) {x = min (c.loop-i.run + c.from-run.result) c.args.total} {y = c.loop-i.run + c.from-run.result} (omega (arith, more.1)) in
-      to_z-of_z w64 c.taken-upto.result (record { sfits = c.taken-upto.ok }) ∙ c.taken-upto.ensures.value ∙ e
+      to_z-of_z w64 c.taken-upto.result (record { sfits = c.taken-upto.type_inv }) ∙ c.taken-upto.ensures.value ∙ e
 
 pub overflow_sub-out : goal.overflow_sub-out
 unfolding a

@@ -10,7 +10,7 @@ loop-component-init c = (refl, member_none c.args.statement.now c.args.member)
 pub loop-component-preserved : goal.loop-component-preserved
 loop-component-preserved c =
     let s : length c.args.statement.now < 2 ^ 63 = search rules in
-    let e = to_z-of_z w64 c.cell.result (record { sfits = c.cell.type-inv }) in (
+    let e = to_z-of_z w64 c.cell.result (record { sfits = c.cell.type_inv }) in (
       simp length-set c.loop-component.invariant.0,
       member_more c.args.statement.now c.args.member c.loop-component.component c.saturating_add-at.result c.loop-component.charges _ (omega arith) (omega arith) s (omega (arith, c.saturating_add-at.ensures)) (e ∙ c.cell.ensures) c.loop-component.invariant.1,
     )

@@ -16,22 +16,22 @@ month_cents-requires g c =
 pub overflow_add-billed : goal.overflow_add-billed
 overflow_add-billed g c =
     let b = to_z-of_z w64 c.args.self.now.billed (search rules) in
-    let m = to_z-of_z w64 c.month_cents.result (record { sfits = c.month_cents.ok }) in
+    let m = to_z-of_z w64 c.month_cents.result (record { sfits = c.month_cents.type_inv }) in
     omega (arith, ints, b, m, c.args.self.now.small, c.args.self.now.few, c.month_cents.ensures.small)
 
 pub invariant_of-self : goal.invariant_of-self
 invariant_of-self g c =
     let r = to_z-of_z w64 c.args.self.now.rate (search rules) in
     let b = to_z-of_z w64 c.args.self.now.billed (search rules) in
-    let m = to_z-of_z w64 c.month_cents.result (record { sfits = c.month_cents.ok }) in
-    (rw r c.args.self.now.rated, (omega arith, (omega (arith, ints, b, m, c.args.self.now.small, c.args.self.now.few, c.month_cents.ensures.small), tt)))
+    let m = to_z-of_z w64 c.month_cents.result (record { sfits = c.month_cents.type_inv }) in
+    record { rated = rw r c.args.self.now.rated; few = omega arith; small = omega (arith, ints, b, m, c.args.self.now.small, c.args.self.now.few, c.month_cents.ensures.small) }
 
 pub returns : goal.returns
 returns g c =
     let year = c.args.self.now in
     let r = to_z-of_z w64 year.rate (search rules) in
     let b = to_z-of_z w64 year.billed (search rules) in
-    let m = to_z-of_z w64 c.month_cents.result (record { sfits = c.month_cents.ok }) in
+    let m = to_z-of_z w64 c.month_cents.result (record { sfits = c.month_cents.type_inv }) in
     let held = g.B.Book.held c.args.book.now in
     let count = g.B.Book.count c.args.book.now in
     record {

@@ -14,7 +14,7 @@ loop-component-preserved c =
     let i = c.loop-component.component in
     let e : length costs ≡ length s.rows = omega (arith, c.requires.long) in
     let z = to_z-of_z w64 (get_or costs i (pos 0)) (search rules) in
-    let p = to_z-of_z w64 c.pool.result (record { sfits = c.pool.type-inv }) in (
+    let p = to_z-of_z w64 c.pool.result (record { sfits = c.pool.type_inv }) in (
       simp length-set c.loop-component.invariant.0,
       front_more (pos 0) (sums costs (balances s)) c.loop-component.pools i _ (omega (arith, pools_length costs s e)) (omega arith)
           (p ∙ c.pool.ensures ∙ ap (λ (x : ℤ). x +ℤ (account_at s i).balance) z ∙ sym (pool_at costs s i e (omega arith))) c.loop-component.invariant.1,
