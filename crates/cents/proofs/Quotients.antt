@@ -1,6 +1,6 @@
 -- A quotient rounded down, by its remainder.
 use Rattle.std.proofs.Common.{◌≡◌, ℕ, zero, suc, ◌+◌, ◌-◌, ◌*◌, ◌%◌, ◌<◌, ◌≤◌, ℤ, pos, negsuc, ◌+ℤ◌, ◌*ℤ◌, sym, refl, ap, ◌∙◌, ⊎_elim, mul-le-mul_left, arith}
-use borrow.Author.Differences.{ints, down}
+use borrow.Author.Differences.{ints}
 use Rattle.std.proofs.lemmas.Bool.{cases_lt}
 use Rattle.std.specs.Int.{int_div_euclid}
 use Rattle.cents.specs.Rounding.{round_down, round_nearest, Largest, Inside}

@@ -31,11 +31,11 @@ fn write_bill<R: Rule, B: Book>(
     file: &mut [Line],
     statement: &mut [i64],
 ) -> Result<[ComponentCharge; 13], Fault>
-    requires units { length units.old ≡ count book.now }
-    requires statement { length statement.old ≡ 13 * count book.now }
-    requires room { start + 13 * count book.now ≤ length file.old }
-    ensures told { answer_by (λ _. tt) result ≡ ranges_rule pools (book_rows (held book.now) 0 (count book.now)) }
-    ensures done { MatchResult result (λ charges. (charges ≡ components (shares rule.now) pools (book_rows (held book.now) 0 (count book.now)) 13) × (statement.new ≡ cells (shares rule.now) pools (book_rows (held book.now) 0 (count book.now)) 13) × (file.new ≡ put start (lines_of (units_laid (book_rows (held book.now) 0 (count book.now)) 13) statement.new) file.old)) (λ _. (statement.new ≡ statement.old) × (file.new ≡ file.old)) }
+    requires units { length units.old ≡ B.count book.now }
+    requires statement { length statement.old ≡ 13 * B.count book.now }
+    requires room { start + 13 * B.count book.now ≤ length file.old }
+    ensures told { answer_by (λ _. tt) result ≡ ranges_rule pools (book_rows (B.held book.now) 0 (B.count book.now)) }
+    ensures done { MatchResult result (λ charges. (charges ≡ components (R.shares rule.now) pools (book_rows (B.held book.now) 0 (B.count book.now)) 13) × (statement.new ≡ cells (R.shares rule.now) pools (book_rows (B.held book.now) 0 (B.count book.now)) 13) × (file.new ≡ put start (lines_of (units_laid (book_rows (B.held book.now) 0 (B.count book.now)) 13) statement.new) file.old)) (λ _. (statement.new ≡ statement.old) × (file.new ≡ file.old)) }
 {
     read_book(book, units)?;
     let charges = charge_month(rule, pools, units, statement)?;
@@ -57,8 +57,8 @@ pub(crate) fn charge_book<R: Rule, B: Book>(
     requires long { length accounts.now.rows ≡ 13 }
     requires balances { (c : ℕ) → unsigned_abs (account_at accounts.now c).balance ≤ 4000000000 }
     requires costs { Bounded 12000000000 costs }
-    ensures told { answer_by (λ _. tt) result ≡ bill_check accounts.now (sums costs (balances accounts.now)) (reading (month book.now) (count book.now) (held book.now)) (length file.old) (length statement.old) }
-    ensures done { MatchResult result (λ charges. (charges ≡ components (shares rule.now) (sums costs (balances accounts.now)) (book_rows (held book.now) 0 (count book.now)) 13) × (statement.new ≡ cells (shares rule.now) (sums costs (balances accounts.now)) (book_rows (held book.now) 0 (count book.now)) 13) × (file.new ≡ slot_written accounts.now (reading (month book.now) (count book.now) (held book.now)) statement.new file.old)) (λ _. (statement.new ≡ statement.old) × (file.new ≡ file.old)) }
+    ensures told { answer_by (λ _. tt) result ≡ bill_check accounts.now (sums costs (balances accounts.now)) (reading (B.month book.now) (B.count book.now) (B.held book.now)) (length file.old) (length statement.old) }
+    ensures done { MatchResult result (λ charges. (charges ≡ components (R.shares rule.now) (sums costs (balances accounts.now)) (book_rows (B.held book.now) 0 (B.count book.now)) 13) × (statement.new ≡ cells (R.shares rule.now) (sums costs (balances accounts.now)) (book_rows (B.held book.now) 0 (B.count book.now)) 13) × (file.new ≡ slot_written accounts.now (reading (B.month book.now) (B.count book.now) (B.held book.now)) statement.new file.old)) (λ _. (statement.new ≡ statement.old) × (file.new ≡ file.old)) }
 {
     let members = accounts.members;
     let wanted = 13 * members as usize;

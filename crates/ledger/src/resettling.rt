@@ -26,9 +26,9 @@ const MOST_UNITS: u64 = 2_000_000_000;
 /// Reads the units of the kind at a place, member by member.
 fn read_kind<B: Book>(book: &B, kind: usize, out: &mut [u32]) -> Result<(), Fault>
     requires kind { kind < 7 }
-    requires long { length out.old ≡ count book.now }
+    requires long { length out.old ≡ B.count book.now }
     ensures told { answer result ≡ done tt }
-    ensures units { out.new ≡ column (book_rows (held book.now) 0 (count book.now)) kind }
+    ensures units { out.new ≡ column (book_rows (B.held book.now) 0 (B.count book.now)) kind }
 {
     for i in 0..out.len() {
         out[i] = book.units(kind as u32 + 1, i as u32)?;
@@ -46,10 +46,10 @@ fn share_again<R: Rule, B: Book>(
     fresh: &mut [i64],
 ) -> Result<(), Fault>
     requires kind { kind < 7 }
-    requires units { length units.old ≡ count book.now }
-    requires fresh { length fresh.old ≡ count book.now }
-    ensures told { answer result ≡ (if nat_le (sum (column (book_rows (held book.now) 0 (count book.now)) kind)) 2000000000 then done tt else refused 8 layer.Ledger (kind + 1)) }
-    ensures shared { OnOk result ((units.new ≡ column (book_rows (held book.now) 0 (count book.now)) kind) × (fresh.new ≡ shares rule.now pool (column (book_rows (held book.now) 0 (count book.now)) kind))) }
+    requires units { length units.old ≡ B.count book.now }
+    requires fresh { length fresh.old ≡ B.count book.now }
+    ensures told { answer result ≡ (if nat_le (sum (column (book_rows (B.held book.now) 0 (B.count book.now)) kind)) 2000000000 then done tt else refused 8 layer.Ledger (kind + 1)) }
+    ensures shared { OnOk result ((units.new ≡ column (book_rows (B.held book.now) 0 (B.count book.now)) kind) × (fresh.new ≡ R.shares rule.now pool (column (book_rows (B.held book.now) 0 (B.count book.now)) kind))) }
 {
     read_kind(book, kind, units)?;
     if total(units) > MOST_UNITS {
@@ -75,13 +75,13 @@ fn resettle_row<R: Rule, B: Book>(
 ) -> Result<i64, Fault>
     requires component { component < 13 }
     requires balance { unsigned_abs balance ≤ 4000000000 }
-    requires units { length units.old ≡ count book.now }
-    requires fresh { length fresh.old ≡ count book.now }
-    requires changes { length changes.old ≡ count book.now }
-    requires lines { length lines.old ≡ count book.now }
-    requires cells { length cells.old ≡ count book.now }
-    ensures told { answer result ≡ change_rule (component + 1) (column (book_rows (held book.now) 0 (count book.now)) (kind_of component)) (shares rule.now pool (column (book_rows (held book.now) 0 (count book.now)) (kind_of component))) balance lines.old }
-    ensures done { MatchResult result (λ _. (lines.new ≡ lines_of (column (book_rows (held book.now) 0 (count book.now)) (kind_of component)) (shares rule.now pool (column (book_rows (held book.now) 0 (count book.now)) (kind_of component)))) × (cells.new ≡ differences (shares rule.now pool (column (book_rows (held book.now) 0 (count book.now)) (kind_of component))) lines.old)) (λ _. (lines.new ≡ lines.old) × (cells.new ≡ cells.old)) }
+    requires units { length units.old ≡ B.count book.now }
+    requires fresh { length fresh.old ≡ B.count book.now }
+    requires changes { length changes.old ≡ B.count book.now }
+    requires lines { length lines.old ≡ B.count book.now }
+    requires cells { length cells.old ≡ B.count book.now }
+    ensures told { answer result ≡ change_rule (component + 1) (column (book_rows (B.held book.now) 0 (B.count book.now)) (kind_of component)) (R.shares rule.now pool (column (book_rows (B.held book.now) 0 (B.count book.now)) (kind_of component))) balance lines.old }
+    ensures done { MatchResult result (λ _. (lines.new ≡ lines_of (column (book_rows (B.held book.now) 0 (B.count book.now)) (kind_of component)) (R.shares rule.now pool (column (book_rows (B.held book.now) 0 (B.count book.now)) (kind_of component)))) × (cells.new ≡ differences (R.shares rule.now pool (column (book_rows (B.held book.now) 0 (B.count book.now)) (kind_of component))) lines.old)) (λ _. (lines.new ≡ lines.old) × (cells.new ≡ cells.old)) }
 {
     share_again(rule, pool, kind_of(component), book, units, fresh)?;
     let left = find_changes(component, balance, fresh, lines, changes)?;
@@ -102,10 +102,10 @@ fn resettle_members<R: Rule, B: Book>(
 ) -> Result<i64, Fault>
     requires component { component < 13 }
     requires balance { unsigned_abs balance ≤ 4000000000 }
-    requires lines { length lines.old ≡ count book.now }
-    requires cells { length cells.old ≡ count book.now }
-    ensures told { answer result ≡ change_rule (component + 1) (column (book_rows (held book.now) 0 (count book.now)) (kind_of component)) (shares rule.now pool (column (book_rows (held book.now) 0 (count book.now)) (kind_of component))) balance lines.old }
-    ensures done { MatchResult result (λ _. (lines.new ≡ lines_of (column (book_rows (held book.now) 0 (count book.now)) (kind_of component)) (shares rule.now pool (column (book_rows (held book.now) 0 (count book.now)) (kind_of component)))) × (cells.new ≡ differences (shares rule.now pool (column (book_rows (held book.now) 0 (count book.now)) (kind_of component))) lines.old)) (λ _. (lines.new ≡ lines.old) × (cells.new ≡ cells.old)) }
+    requires lines { length lines.old ≡ B.count book.now }
+    requires cells { length cells.old ≡ B.count book.now }
+    ensures told { answer result ≡ change_rule (component + 1) (column (book_rows (B.held book.now) 0 (B.count book.now)) (kind_of component)) (R.shares rule.now pool (column (book_rows (B.held book.now) 0 (B.count book.now)) (kind_of component))) balance lines.old }
+    ensures done { MatchResult result (λ _. (lines.new ≡ lines_of (column (book_rows (B.held book.now) 0 (B.count book.now)) (kind_of component)) (R.shares rule.now pool (column (book_rows (B.held book.now) 0 (B.count book.now)) (kind_of component)))) × (cells.new ≡ differences (R.shares rule.now pool (column (book_rows (B.held book.now) 0 (B.count book.now)) (kind_of component))) lines.old)) (λ _. (lines.new ≡ lines.old) × (cells.new ≡ cells.old)) }
 {
     let members = cells.len();
     let mut units = [0u32; 200];
@@ -136,14 +136,14 @@ pub(crate) fn resettle_lines<R: Rule, B: Book>(
 ) -> Result<i64, Fault>
     requires component { component < 13 }
     requires members { accounts.now.members ≤ 200 }
-    requires count { count book.now ≡ accounts.now.members }
+    requires count { B.count book.now ≡ accounts.now.members }
     requires file { length file.old ≡ 78 * accounts.now.members }
     requires statement { length statement.old ≡ accounts.now.members }
     requires long { length accounts.now.rows ≡ 13 }
     requires slots { length (account_at accounts.now component).pools ≡ 6 }
     requires balance { unsigned_abs (account_at accounts.now component).balance ≤ 4000000000 }
-    ensures told { answer result ≡ change_rule (component + 1) (units_read (reading (month book.now) (count book.now) (held book.now)) component) (shares_again (shares rule.now) accounts.now (reading (month book.now) (count book.now) (held book.now)) component) (account_at accounts.now component).balance (lines_at accounts.now file.old (reading (month book.now) (count book.now) (held book.now)) component) }
-    ensures done { MatchResult result (λ _. (file.new ≡ put (row_at accounts.now.members (month book.now) component) (lines_of (units_read (reading (month book.now) (count book.now) (held book.now)) component) (shares_again (shares rule.now) accounts.now (reading (month book.now) (count book.now) (held book.now)) component)) file.old) × (statement.new ≡ differences (shares_again (shares rule.now) accounts.now (reading (month book.now) (count book.now) (held book.now)) component) (lines_at accounts.now file.old (reading (month book.now) (count book.now) (held book.now)) component))) (λ _. (file.new ≡ file.old) × (statement.new ≡ statement.old)) }
+    ensures told { answer result ≡ change_rule (component + 1) (units_read (reading (B.month book.now) (B.count book.now) (B.held book.now)) component) (shares_again (R.shares rule.now) accounts.now (reading (B.month book.now) (B.count book.now) (B.held book.now)) component) (account_at accounts.now component).balance (lines_at accounts.now file.old (reading (B.month book.now) (B.count book.now) (B.held book.now)) component) }
+    ensures done { MatchResult result (λ _. (file.new ≡ put (row_at accounts.now.members (B.month book.now) component) (lines_of (units_read (reading (B.month book.now) (B.count book.now) (B.held book.now)) component) (shares_again (R.shares rule.now) accounts.now (reading (B.month book.now) (B.count book.now) (B.held book.now)) component)) file.old) × (statement.new ≡ differences (shares_again (R.shares rule.now) accounts.now (reading (B.month book.now) (B.count book.now) (B.held book.now)) component) (lines_at accounts.now file.old (reading (B.month book.now) (B.count book.now) (B.held book.now)) component))) (λ _. (file.new ≡ file.old) × (statement.new ≡ statement.old)) }
 {
     let month = book.month();
     let account = accounts.rows[component];

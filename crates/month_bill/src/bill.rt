@@ -41,7 +41,7 @@ fn charge_members<R: Rule + Drop + Copy>(
     requires file { length file.old ≡ 78 * length members.now }
     requires statement { length statement.old ≡ 13 * length members.now }
     requires charges { length charges.old ≡ length members.now }
-    ensures { answer_by (λ components. (components, charges.new)) result ≡ charge_costs (shares rule) (cut_by sheet) month.now members.now }
+    ensures { answer_by (λ components. (components, charges.new)) result ≡ charge_costs (R.shares rule) (cut_by sheet) month.now members.now }
 {
     let book = month_book(month.month, members, facts)?;
     let mut ledger = Ledger::blank(rule);
@@ -55,7 +55,7 @@ fn charge_members<R: Rule + Drop + Copy>(
 /// The same by a rule, in places of its own.
 fn charge_by<R: Rule + Drop + Copy>(rule: R, month: &Month, sheet: Sheet) -> Result<Bill, Fault>
     requires { month.now.count ≤ 32 }
-    ensures { answer_by (λ bill. (bill.components, take month.now.count bill.members)) result ≡ charge_costs (shares rule) (cut_by sheet) month.now (take month.now.count month.now.members) }
+    ensures { answer_by (λ bill. (bill.components, take month.now.count bill.members)) result ≡ charge_costs (R.shares rule) (cut_by sheet) month.now (take month.now.count month.now.members) }
 {
     let count = month.count;
     let mut facts = [Facts::of([0; 11]); 32];

@@ -16,8 +16,8 @@ fn add_up(out: [i64; 3]) -> i64
 
 /// What three members bear together.
 pub fn together<R: Rule>(rule: &R, pool: i64, units: [u32; 3]) -> i64
-    ensures value { result ≡ sum_z (shares rule.now pool units) }
-    ensures near { shareable pool units ≡ true → unsigned_abs (pool -ℤ result) ≤ slack 3 step (sum units) }
+    ensures value { result ≡ sum_z (R.shares rule.now pool units) }
+    ensures near { shareable pool units ≡ true → unsigned_abs (pool -ℤ result) ≤ slack 3 R.step (sum units) }
 {
     let mut out = [0i64; 3];
     rule.share(pool, &units, &mut out);

@@ -37,8 +37,8 @@ fn charge_row<R: Rule>(rule: &R, pool: i64, units: &[u32], row: &mut [i64]) -> C
     requires long { length row.old ≡ length units.now }
     requires pool { unsigned_abs pool ≤ 4000000000 }
     requires units { sum units.now ≤ 2000000000 }
-    ensures value { result ≡ component_charge (shares rule.now) pool units.now }
-    ensures row { row.new ≡ shares rule.now pool units.now }
+    ensures value { result ≡ component_charge (R.shares rule.now) pool units.now }
+    ensures row { row.new ≡ R.shares rule.now pool units.now }
 {
     let units_in_all = total(units) as u32;
     rule.share(pool, units, row);
@@ -65,8 +65,8 @@ fn charge_column<R: Rule>(
     requires long { length row.old ≡ length units.now }
     requires pool { unsigned_abs pool ≤ 4000000000 }
     requires units { sum (column units.now kind) ≤ 2000000000 }
-    ensures value { result ≡ component_charge (shares rule.now) pool (column units.now kind) }
-    ensures row { row.new ≡ shares rule.now pool (column units.now kind) }
+    ensures value { result ≡ component_charge (R.shares rule.now) pool (column units.now kind) }
+    ensures row { row.new ≡ R.shares rule.now pool (column units.now kind) }
 {
     copy_column(units, kind, kind_units);
     charge_row(rule, pool, kind_units, row)
@@ -85,8 +85,8 @@ pub(crate) fn charge_component<R: Rule>(
     requires long { length row.old ≡ length units.now }
     requires pool { unsigned_abs pool ≤ 4000000000 }
     requires units { sum (column units.now (kind_of component)) ≤ 2000000000 }
-    ensures value { result ≡ component_charge (shares rule.now) pool (column units.now (kind_of component)) }
-    ensures row { row.new ≡ shares rule.now pool (column units.now (kind_of component)) }
+    ensures value { result ≡ component_charge (R.shares rule.now) pool (column units.now (kind_of component)) }
+    ensures row { row.new ≡ R.shares rule.now pool (column units.now (kind_of component)) }
 {
     let mut kind_units = [0u32; 200];
     let members = units.len();

@@ -22,8 +22,8 @@ fn charge_all<R: Rule>(
     requires long { length statement.old ≡ 13 * length units.now }
     requires pools { (c : ℕ) → unsigned_abs (slice_index_or pools c (pos 0)) ≤ 4000000000 }
     requires units { (k : ℕ) → k < 7 → sum (column units.now k) ≤ 2000000000 }
-    ensures value { result ≡ components (shares rule.now) pools units.now 13 }
-    ensures cells { statement.new ≡ cells (shares rule.now) pools units.now 13 }
+    ensures value { result ≡ components (R.shares rule.now) pools units.now 13 }
+    ensures cells { statement.new ≡ cells (R.shares rule.now) pools units.now 13 }
 {
     let members = units.len();
     let blank = ComponentCharge {
@@ -50,7 +50,7 @@ pub fn charge_month<R: Rule>(
     statement: &mut [i64],
 ) -> Result<[ComponentCharge; 13], Fault>
     ensures told { answer_by (λ _. tt) result ≡ charge_rule pools units.now (length statement.old) }
-    ensures done { MatchResult result (λ charges. (charges ≡ components (shares rule.now) pools units.now 13) × (statement.new ≡ cells (shares rule.now) pools units.now 13)) (λ _. statement.new ≡ statement.old) }
+    ensures done { MatchResult result (λ charges. (charges ≡ components (R.shares rule.now) pools units.now 13) × (statement.new ≡ cells (R.shares rule.now) pools units.now 13)) (λ _. statement.new ≡ statement.old) }
 {
     check_month(pools, units, statement.len())?;
     Ok(charge_all(rule, pools, units, statement))

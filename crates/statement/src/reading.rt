@@ -9,7 +9,7 @@ use refusal::{Fault, Layer, Refusal};
 
 /// A member's units of the seven kinds.
 fn member_row<B: Book>(book: &B, member: u32) -> Result<[u32; 7], Fault>
-    ensures { answer result ≡ row_asked (count book.now) (held book.now) member }
+    ensures { answer result ≡ row_asked (B.count book.now) (B.held book.now) member }
 {
     let row = [
         book.units(1, member)?,
@@ -25,8 +25,8 @@ fn member_row<B: Book>(book: &B, member: u32) -> Result<[u32; 7], Fault>
 
 /// Reads all units of a book into memory that has a row for each member.
 pub fn read_book<B: Book>(book: &B, out: &mut [[u32; 7]]) -> Result<(), Fault>
-    ensures told { answer result ≡ (if nat_eq (length out.old) (count book.now) then done tt else refused 11 Ledger 0) }
-    ensures after { MatchResult result (λ _. out.new ≡ book_rows (held book.now) 0 (count book.now)) (λ _. out.new ≡ out.old) }
+    ensures told { answer result ≡ (if nat_eq (length out.old) (B.count book.now) then done tt else refused 11 Ledger 0) }
+    ensures after { MatchResult result (λ _. out.new ≡ book_rows (B.held book.now) 0 (B.count book.now)) (λ _. out.new ≡ out.old) }
 {
     if out.len() != book.members() as usize {
         return Err(Layer::Ledger.refuses(Refusal::Length));

@@ -25,11 +25,11 @@ impl<R: Rule> Ledger<R> {
         file: &mut [Line],
         statement: &mut [i64],
     ) -> Result<[ComponentCharge; 13], Fault>
-        ensures told { answer result ≡ next (bill_rule (shares self.old.rule) (cut_by self.old.sheet) (standing_of self.old file.old) (reading (month book.now) (count book.now) (held book.now)) (length statement.old)) (λ left. done left.components) }
-        ensures standing { standing_of self.new file.new ≡ after (bill_rule (shares self.old.rule) (cut_by self.old.sheet) (standing_of self.old file.old) (reading (month book.now) (count book.now) (held book.now)) (length statement.old)) (λ left. left.standing) (standing_of self.old file.old) }
-        ensures cells { statement.new ≡ after (bill_rule (shares self.old.rule) (cut_by self.old.sheet) (standing_of self.old file.old) (reading (month book.now) (count book.now) (held book.now)) (length statement.old)) (λ left. left.cells) statement.old }
+        ensures told { answer result ≡ next (bill_rule (R.shares self.old.rule) (cut_by self.old.sheet) (standing_of self.old file.old) (reading (B.month book.now) (B.count book.now) (B.held book.now)) (length statement.old)) (λ left. done left.components) }
+        ensures standing { standing_of self.new file.new ≡ after (bill_rule (R.shares self.old.rule) (cut_by self.old.sheet) (standing_of self.old file.old) (reading (B.month book.now) (B.count book.now) (B.held book.now)) (length statement.old)) (λ left. left.standing) (standing_of self.old file.old) }
+        ensures cells { statement.new ≡ after (bill_rule (R.shares self.old.rule) (cut_by self.old.sheet) (standing_of self.old file.old) (reading (B.month book.now) (B.count book.now) (B.held book.now)) (length statement.old)) (λ left. left.cells) statement.old }
         ensures same { (self.new.rule ≡ self.old.rule) × (self.new.sheet ≡ self.old.sheet) }
-        ensures law { (h : History) → Kept (terms_of shares step self.old) h (standing_of self.old file.old) → MatchResult result (λ _. Kept (terms_of shares step self.old) (billed (reading (month book.now) (count book.now) (held book.now)) statement.new ∷ h) (standing_of self.new file.new)) (λ _. Kept (terms_of shares step self.old) h (standing_of self.new file.new)) }
+        ensures law { (h : History) → Kept (terms_of R.shares R.step self.old) h (standing_of self.old file.old) → MatchResult result (λ _. Kept (terms_of R.shares R.step self.old) (billed (reading (B.month book.now) (B.count book.now) (B.held book.now)) statement.new ∷ h) (standing_of self.new file.new)) (λ _. Kept (terms_of R.shares R.step self.old) h (standing_of self.new file.new)) }
     {
         let costs = self.sheet.costs(&self.heads);
         let charges = charge_book(&self.rule, &self.accounts, costs, book, file, statement)?;

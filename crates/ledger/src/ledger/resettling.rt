@@ -41,11 +41,11 @@ impl<R: Rule> Ledger<R> {
         file: &mut [Line],
         statement: &mut [i64],
     ) -> Result<(), Fault>
-        ensures told { answer result ≡ bare (resettle_rule (shares self.old.rule) (standing_of self.old file.old) (reading (month book.now) (count book.now) (held book.now)) component (length statement.old)) }
-        ensures standing { standing_of self.new file.new ≡ after (resettle_rule (shares self.old.rule) (standing_of self.old file.old) (reading (month book.now) (count book.now) (held book.now)) component (length statement.old)) (λ left. left.standing) (standing_of self.old file.old) }
-        ensures cells { statement.new ≡ after (resettle_rule (shares self.old.rule) (standing_of self.old file.old) (reading (month book.now) (count book.now) (held book.now)) component (length statement.old)) (λ left. left.cells) statement.old }
+        ensures told { answer result ≡ bare (resettle_rule (R.shares self.old.rule) (standing_of self.old file.old) (reading (B.month book.now) (B.count book.now) (B.held book.now)) component (length statement.old)) }
+        ensures standing { standing_of self.new file.new ≡ after (resettle_rule (R.shares self.old.rule) (standing_of self.old file.old) (reading (B.month book.now) (B.count book.now) (B.held book.now)) component (length statement.old)) (λ left. left.standing) (standing_of self.old file.old) }
+        ensures cells { statement.new ≡ after (resettle_rule (R.shares self.old.rule) (standing_of self.old file.old) (reading (B.month book.now) (B.count book.now) (B.held book.now)) component (length statement.old)) (λ left. left.cells) statement.old }
         ensures same { (self.new.rule ≡ self.old.rule) × (self.new.sheet ≡ self.old.sheet) }
-        ensures law { (h : History) → Kept (terms_of shares step self.old) h (standing_of self.old file.old) → MatchResult result (λ _. Kept (terms_of shares step self.old) (resettled (component - 1) (reading (month book.now) (count book.now) (held book.now)) statement.new ∷ h) (standing_of self.new file.new)) (λ _. Kept (terms_of shares step self.old) h (standing_of self.new file.new)) }
+        ensures law { (h : History) → Kept (terms_of R.shares R.step self.old) h (standing_of self.old file.old) → MatchResult result (λ _. Kept (terms_of R.shares R.step self.old) (resettled (component - 1) (reading (B.month book.now) (B.count book.now) (B.held book.now)) statement.new ∷ h) (standing_of self.new file.new)) (λ _. Kept (terms_of R.shares R.step self.old) h (standing_of self.new file.new)) }
     {
         if !is_reconciled(component) {
             return Err(Layer::Ledger.refuses(Refusal::Kind));

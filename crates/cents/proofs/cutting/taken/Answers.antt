@@ -1,5 +1,5 @@
 use Rattle.std.proofs.Common.{◌≡◌, ℕ, ◌^◌, ◌<◌, min, ℤ, pos, ◌*ℤ◌, sym, ap, ◌∙◌, subst, arith, w64, SFits, to_z, of_z}
-use borrow.Author.Differences.{ints, down}
+use borrow.Author.Differences.{ints}
 use mir.Syntax.{w128}
 use Rattle.std.proofs.lemmas.Int.{to_z-of_z}
 use Rattle.cents.specs.Rounding.{round_down, Inside}

@@ -7,7 +7,7 @@ use Rattle.sharing.proofs.Lawful.{share_small, whole_near}
 use Rattle.other_rule.proofs.uses.together.Goals as goal
 
 pub add_up-requires : goal.add_up-requires
-add_up-requires g c κs m =
+add_up-requires g c m =
     let n : length c.args.units ≡ 3 = search rules in
     let o = laid_is c.args.units (pos 0 ∷ pos 0 ∷ pos 0 ∷ []) (g.R.Rule.shares c.args.rule.now (to_z w64 (of_z w64 c.args.pool)) c.args.units) c.share.new.out n c.share.ensures in
     let s = share_small g.R.Rule.step (to_z w64 (of_z w64 c.args.pool)) c.args.units (g.R.Rule.shares c.args.rule.now (to_z w64 (of_z w64 c.args.pool)) c.args.units) g.met.R.Rule.stepped (g.met.R.Rule.idle c.args.rule.now (to_z w64 (of_z w64 c.args.pool)) c.args.units) (g.met.R.Rule.fair c.args.rule.now (to_z w64 (of_z w64 c.args.pool)) c.args.units) m in

@@ -7,7 +7,7 @@ use Rattle.voucher.proofs.voucher.Voucher.line.Goals as goal
 pub invariant_of-self : goal.invariant_of-self
 invariant_of-self c =
     let s = line_small c.args.self.now.amounts c.args.head c.args.amount c.in-Some.sum (search rules) c.ranges.amount (search rules) c.in-Some.ensures c.args.self.now.small in
-    (c.args.self.now.bounded, (search rules, (s, (search rules, tt))))
+    record { bounded = c.args.self.now.bounded; long = search rules; small = s; even = search rules }
 
 pub returns : goal.returns
 returns c =
