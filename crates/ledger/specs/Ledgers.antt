@@ -2,6 +2,7 @@
 use Rattle.std.specs.Prelude.{ℕ, List}
 use Rattle.tariff.specs.declared.sheet.Sheet.{Sheet}
 use Rattle.tariff.specs.Costs.{costs}
+use Rattle.sharing.specs.declared.rule.Rule.{Ghosts}
 use Rattle.statement.specs.Charges.{Shares}
 use Rattle.ledger.specs.declared.line.Line.{Line}
 use Rattle.ledger.specs.declared.ledger.Ledger.{Ledger}
@@ -13,9 +14,9 @@ use Rattle.ledger.specs.Kept.{Terms, terms}
 abbrev pub cut_by : Sheet → Cut
 cut_by sheet = costs sheet.division sheet.management sheet.split
 
-abbrev pub standing_of : {R : Type 0} → Ledger R → List Line → Standing
+abbrev pub standing_of : {R : Type 0} → {G : Ghosts R} → Ledger R G → List Line → Standing
 standing_of l file = standing l.heads.amounts l.accounts file
 
 -- what it was opened with, where a rule means shares and has a step
-abbrev pub terms_of : {R : Type 0} → (R → Shares) → ℕ → Ledger R → Terms
+abbrev pub terms_of : {R : Type 0} → {G : Ghosts R} → (R → Shares) → ℕ → Ledger R G → Terms
 terms_of shares step l = terms (shares l.rule) step (cut_by l.sheet) l.accounts.members l.accounts.first
