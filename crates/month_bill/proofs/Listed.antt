@@ -34,11 +34,11 @@ seven_rows (f ∷ facts) out e i l =
     rw p.4 (elim i as (λ (j : ℕ). j < suc (length p.1) → length (get_or (p.0 ∷ p.1) j []) ≡ 7) [ zero ↦ λ q. ap length k.1 | suc j ↦ λ q. seven_rows facts p.1 p.3 j (omega arith) ] (omega (arith, n)))
 
 -- a table's rows are what its cells read as
-rows_read_lem : (rows : List (List ℕ)) (m n : ℕ) → m + n ≤ length rows → ((i : ℕ) → i < m + n → length (get_or rows i []) ≡ 7) → book_rows (cell rows) m n ≡ take n (drop m rows)
-rows_read_lem rows m zero l h = refl
-rows_read_lem rows m (suc n) l h =
+rows_read : (rows : List (List ℕ)) (m n : ℕ) → m + n ≤ length rows → ((i : ℕ) → i < m + n → length (get_or rows i []) ≡ 7) → book_rows (cell rows) m n ≡ take n (drop m rows)
+rows_read rows m zero l h = refl
+rows_read rows m (suc n) l h =
     let r : book_row (cell rows) m ≡ get_or rows m [] = sym (tabulated 0 7 (get_or rows m []) (h m (omega arith))) in
-    let t = rows_read_lem rows (m + 1) n (omega arith) (λ i q. h i (omega arith)) in
+    let t = rows_read rows (m + 1) n (omega arith) (λ i q. h i (omega arith)) in
     rw (r, t) (sym (ap (take (suc n)) (drop_more rows m [] (omega arith))))
 
 passed_rows : {R : Type 0} (reads : R → Option (List ℕ)) (month : ℕ) (rows : List R) (out : List (List ℕ)) → table_rule reads month rows ≡ done out → rows_rule reads rows ≡ done out
@@ -55,7 +55,7 @@ book_read month n facts rows l e =
     let p = passed_rows units_of month facts (take n rows) e in
     let s = seven_rows facts (take n rows) p in
     let f : (i : ℕ) → i < 0 + n → length (get_or rows i []) ≡ 7 = λ i q. ap length (sym (get_or-take n rows i [] (omega arith))) ∙ s i (omega (arith, length-take-le n rows l)) in
-    e ∙ ap done (sym (rows_read_lem rows 0 n (omega arith) f))
+    e ∙ ap done (sym (rows_read rows 0 n (omega arith) f))
 
 module _ (statement : List ℤ) (members : List Member) (i : ℕ) (out all : List MemberCharge) (inv : take i out ++ member_rows statement i (drop i members) ≡ all) where
   pub rows_more : (d : Member) (x : MemberCharge) → i < length members → i < length out → x ≡ record { account = (get_or members i d).account; charges = member_charges statement i }

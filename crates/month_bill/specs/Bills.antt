@@ -1,5 +1,5 @@
 -- A month's bill, from the month's values.
-use Rattle.std.specs.Prelude.{ℕ, ◌*◌, cond, List, length, take, ℤ, nat_le}
+use Rattle.std.specs.Prelude.{ℕ, ◌*◌, cond, List, [], ◌∷◌, length, take, ℤ, pos, nat_le}
 use Rattle.refusal.specs.Answers.{Told, done, refused, next}
 use Rattle.refusal.specs.declared.Layer.TheVariants as layer
 use Rattle.tariff.specs.Sheets.{sheet_rule}
@@ -16,28 +16,31 @@ use Rattle.charges_text.specs.declared.charges.ComponentCharge.{ComponentCharge}
 use Rattle.charges_text.specs.declared.charges.MemberCharge.{MemberCharge}
 use Rattle.statement.specs.Checks.{charge_rule}
 use Rattle.statement.specs.Charges.{Shares, components, cells}
-use Rattle.ledger.specs.Standings.{no_heads}
-use Rattle.ledger.specs.Billing.{Cut}
 use Rattle.month_bill.specs.Members.{units_rule, member_rows}
+
+-- nothing waits in the heads
+abbrev pub no_heads : List ℤ
+no_heads = pos 0 ∷ pos 0 ∷ pos 0 ∷ pos 0 ∷ pos 0 ∷ pos 0 ∷ []
 
 -- division weights, management weights, splits
 abbrev pub month_sheet : Month → Told (List ℕ × List ℕ × List ℕ)
 month_sheet m = next (sheet_rule m.division m.management m.split) (λ _. done (m.division, m.management, m.split))
 
--- the tests of a bill, and then what components and members are charged
-abbrev pub charge_members : Shares → List ℤ → List (List ℕ) → List Member → Told (List ComponentCharge × List MemberCharge)
-charge_members shares pools rows members =
-    next (charge_rule pools rows (13 * length rows)) (λ _.
-    done (components shares pools rows 13, member_rows (cells shares pools rows 13) 0 members))
-
--- the members' units by the month's fact book; the costs booked on the empty heads of a new ledger by a
--- balanced voucher; and what the sheet makes of them is charged
-abbrev pub charge_costs : Shares → Cut → Month → List Member → Told (List ComponentCharge × List MemberCharge)
-charge_costs shares cut m members =
-    next (units_rule m.month members) (λ rows.
+-- the sheet is laid, the costs are booked on empty heads by a balanced voucher, and the sheet cuts them
+abbrev pub month_pools : Month → Told (List ℤ)
+month_pools m =
+    next (month_sheet m) (λ sheet.
     next (cost_rule m.control m.cost) (λ amounts.
     next (book_rule no_heads amounts) (λ heads.
-    charge_members shares (cut heads) rows members)))
+    done (costs sheet.0 sheet.1 sheet.2 heads))))
+
+-- the members' units by the month's fact book, the tests of a bill, and then what components and
+-- members are charged
+abbrev pub charge_members : Shares → ℕ → List ℤ → List Member → Told (List ComponentCharge × List MemberCharge)
+charge_members shares month pools members =
+    next (units_rule month members) (λ rows.
+    next (charge_rule pools rows (13 * length rows)) (λ _.
+    done (components shares pools rows 13, member_rows (cells shares pools rows 13) 0 members)))
 
 abbrev pub shares_of : RuleName → Shares
 shares_of Posted = posted
@@ -47,5 +50,5 @@ shares_of Ratio = ratio
 abbrev pub bill_month : Month → Told (List ComponentCharge × List MemberCharge)
 bill_month m =
     cond (nat_le m.count 32)
-    (next (month_sheet m) (λ sheet. charge_costs (shares_of m.rule) (costs sheet.0 sheet.1 sheet.2) m (take m.count m.members)))
+    (next (month_pools m) (λ pools. charge_members (shares_of m.rule) m.month pools (take m.count m.members)))
     (refused 4 layer.Ledger 0)

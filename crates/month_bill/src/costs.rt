@@ -1,21 +1,17 @@
-//! A month's sheet, and its costs on a ledger.
+//! The pools of a month that starts from nothing: its thirteen component costs.
 ghost use Rattle.std.specs.Prelude.{◌≡◌};
-ghost use Rattle.refusal.specs.Answers.{answer, answer_by, next, bare, after};
+ghost use Rattle.refusal.specs.Answers.{answer, answer_by};
+ghost use Rattle.month_bill.specs.Bills.{no_heads, month_sheet, month_pools};
 ghost use Rattle.tariff.specs.Heads.{book_rule};
-ghost use Rattle.month_voucher.specs.Costs.{cost_rule};
-ghost use Rattle.month_bill.specs.Bills.{month_sheet};
 
-use ledger::ledger::Ledger;
-use ledger::unbooked::Unbooked;
 use month_text::month::Month;
-use month_voucher::cost_voucher;
+use month_voucher::cost_amounts;
 use refusal::Fault;
-use sharing::rule::Rule;
+use tariff::heads::Heads;
 use tariff::sheet::Sheet;
-use voucher::voucher::Voucher;
 
 /// The month's sheet.
-pub(crate) fn month_sheet(month: &Month) -> Result<Sheet, Fault>
+fn month_sheet(month: &Month) -> Result<Sheet, Fault>
     ensures { answer_by (λ sheet. (sheet.division, sheet.management, sheet.split)) result ≡ month_sheet month.now }
 {
     let mut sheet = Sheet::even();
@@ -23,18 +19,21 @@ pub(crate) fn month_sheet(month: &Month) -> Result<Sheet, Fault>
     Ok(sheet)
 }
 
-/// Puts the month's costs on a voucher and books it.
-pub(crate) fn book_costs<R: Rule>(ledger: &mut Ledger<R>, month: &Month) -> Result<(), Fault>
-    ensures told { answer result ≡ next (cost_rule month.now.control month.now.cost) (λ amounts. bare (book_rule ledger.old.heads.amounts amounts)) }
-    ensures heads { ledger.new.heads.amounts ≡ after (next (cost_rule month.now.control month.now.cost) (λ amounts. book_rule ledger.old.heads.amounts amounts)) (λ heads. heads) ledger.old.heads.amounts }
-    ensures same { (ledger.new.rule ≡ ledger.old.rule) × (ledger.new.sheet ≡ ledger.old.sheet) × (ledger.new.accounts ≡ ledger.old.accounts) }
+/// Six amounts booked on empty heads.
+fn booked(amounts: [i64; 6]) -> Result<Heads, Fault>
+    ensures { answer_by (λ heads. heads.amounts) result ≡ book_rule no_heads amounts }
 {
-    let voucher: Voucher = cost_voucher(month.control, month.cost)?;
-    match ledger.book(voucher) {
-        Ok(()) => Ok(()),
-        Err(unbooked) => {
-            let Unbooked { fault, amounts: _ } = unbooked;
-            Err(fault)
-        }
-    }
+    let mut heads = Heads::zero();
+    heads.book(amounts)?;
+    Ok(heads)
+}
+
+/// Lays the month's sheet, books its costs by a balanced voucher and cuts them.
+pub fn month_pools(month: &Month) -> Result<[i64; 13], Fault>
+    ensures { answer result ≡ month_pools month.now }
+{
+    let sheet = month_sheet(month)?;
+    let amounts = cost_amounts(month.control, month.cost)?;
+    let heads = booked(amounts)?;
+    Ok(sheet.costs(&heads))
 }

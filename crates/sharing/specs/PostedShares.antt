@@ -2,7 +2,7 @@
 use Rattle.std.specs.Prelude.{◌≡◌, ℕ, suc, ◌+◌, ◌*◌, ◌<◌, ◌≤◌, true, List, map, ℤ, pos, negsuc, ◌+ℤ◌, ◌*ℤ◌, sum, slice_index, slice_index_or, unsigned_abs}
 use Rattle.std.proofs.Common.{mul-le-mul_left, arith, sym, ap, subst}
 use borrow.Author.Differences.{ints, up, down}
-use Rattle.std.proofs.lemmas.Bool.{cond-true}
+use Rattle.std.proofs.lemmas.Bool.{cond-true, cond_both}
 use Rattle.cents.specs.Rounding.{round_nearest}
 use Rattle.cents.proofs.Quotients.{down_left, down_unique, nearest_inside}
 use Rattle.sharing.specs.Domain.{in_domain, shareable}
@@ -33,6 +33,10 @@ rate_in p T e =
     let d = in_domain_lem p T e in
     let i = inside_abs (pos 100 *ℤ p) (round_nearest (pos 100 *ℤ p) T) (nearest_inside (pos 100 *ℤ p) T d.1) in
     omega (arith, d.0, abs_times 100 p, i)
+
+-- a rate is at most a hundred times the largest pool
+pub rate_within : (p : ℤ) (T : ℕ) → unsigned_abs (posted_rate p T) ≤ 400000000000
+rate_within p T = cond_both (in_domain p T) (round_nearest (pos 100 *ℤ p) T) (pos 0) (λ z. unsigned_abs z ≤ 400000000000) (rate_in p T) (λ _. omega arith)
 
 -- the two remainders, over one total; each number is a difference of two
 over_total : (p p' q q' s s' T u r t : ℕ) → r < 2 * T → t < 200 → 200 * p + T + 2 * (T * q') ≡ 200 * p' + 2 * (T * q) + r

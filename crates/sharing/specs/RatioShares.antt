@@ -1,12 +1,16 @@
 -- The parts of a cut, each at its place, and their sum.
-use Rattle.std.specs.Prelude.{◌≡◌, ℕ, zero, suc, ◌+◌, ◌<◌, ◌≤◌, List, [], ◌∷◌, length, take, ℤ, pos, ◌+ℤ◌, ◌-ℤ◌, ◌*ℤ◌, sum, FitsSigned, slice_index, slice_index_or, refl}
+use Rattle.std.specs.Prelude.{◌≡◌, ℕ, zero, suc, ◌+◌, ◌<◌, ◌≤◌, true, List, [], ◌∷◌, length, take, ℤ, pos, ◌+ℤ◌, ◌-ℤ◌, ◌*ℤ◌, sum, FitsSigned, slice_index, slice_index_or, refl}
 use Rattle.std.proofs.Common.{arith, sym, ap, subst, ◌∙◌, to_z, of_z}
 use Rattle.std.specs.Int.{w64}
 use Rattle.std.proofs.lemmas.Int.{to_z-of_z, ints}
 use Rattle.std.proofs.lemmas.List.Sums.{sum_by_more, sum_by-take-le}
-use Rattle.cents.specs.Cutting.{taken, parts_from, cut}
-use Rattle.cents.proofs.Parts.{part_left, part_inside}
+use Rattle.cents.specs.Cutting.{taken, parts_from, cut, sum_z}
+use Rattle.cents.proofs.Parts.{part_left, part_inside, cut_sum}
+use Rattle.sharing.specs.Domain.{shareable}
 use Rattle.sharing.specs.Tolerance.{Near}
+use Rattle.sharing.specs.Ratio.{ratio}
+use Rattle.sharing.specs.Domains.{in_domain_lem}
+use Rattle.sharing.specs.Shared.{shared_is}
 
 pub length_parts : (p : ℤ) (T x : ℕ) (us : List ℕ) → length (parts_from p T x us) ≡ length us
 length_parts p T x [] = refl
@@ -47,3 +51,7 @@ part_fits a T x u g f h l e d =
     let i = part_inside a T x u l in
     let s : FitsSigned w64 (g -ℤ f) = omega (arith, ints, i) in
     (s, to_z-of_z w64 (g -ℤ f) s ∙ rw (e, d) refl)
+
+-- the shares by ratio are the whole pool
+pub ratio_whole : (p : ℤ) (us : List ℕ) → shareable p us ≡ true → sum_z (ratio p us) ≡ p
+ratio_whole p us e = ap sum_z (shared_is p us (cut p us) e) ∙ cut_sum p us (in_domain_lem p (sum us) e).1

@@ -5,10 +5,8 @@ use Rattle.month_bill.proofs.bill.bill_month.Goals as goal
 
 pub returns-in-Posted : goal.returns-in-Posted
 returns-in-Posted c =
-    let sheet = c.in_ok-sheet.sheet in
-    bill_done c.args.month.now Posted sheet.division sheet.management sheet.split _ c.in-Posted.is (omega arith) c.in_ok-sheet.ensures c.charge_by.ensures
+    bill_done c.args.month.now Posted c.in_ok-pools.pools _ c.in-Posted.is (omega arith) c.in_ok-pools.ensures c.charge_by.ensures
 
 pub returns-in-Ratio : goal.returns-in-Ratio
 returns-in-Ratio c =
-    let sheet = c.in_ok-sheet.sheet in
-    bill_done c.args.month.now Ratio sheet.division sheet.management sheet.split _ c.in-Ratio.is (omega arith) c.in_ok-sheet.ensures c.charge_by-in-Ratio.ensures
+    bill_done c.args.month.now Ratio c.in_ok-pools.pools _ c.in-Ratio.is (omega arith) c.in_ok-pools.ensures c.charge_by-in-Ratio.ensures
