@@ -1,4 +1,4 @@
-/* What screens in C may call. Link target/staticlib/libscreens.a (made by `rt staticlib screens`). */
+/* What screens in C may call. Link target/staticlib/libscreens.a (made by `c/run`). */
 #ifndef BULLIONGNAT_H
 #define BULLIONGNAT_H
 

@@ -1,5 +1,5 @@
 -- Rows of units, read one after the other.
-use Rattle.std.proofs.Common.{◌≡◌, ℕ, ◌+◌, ◌-◌, ◌<◌, ◌≤◌, List, [], ◌∷◌, ◌++◌, length, get_or, take, drop, set, Some, None, Option, sym, refl, ap, ◌∙◌}
+use Rattle.std.proofs.Common.{◌≡◌, ℕ, ◌+◌, ◌<◌, ◌≤◌, List, [], ◌∷◌, ◌++◌, length, get_or, take, drop, set, Some, None, Option, sym, refl, ap, ◌∙◌}
 use Rattle.std.proofs.lemmas.List.{take_more_set, take_all, drop_more, drop_all, append_assoc, append-nil}
 use Rattle.refusal.specs.Answers.{Told, done, refused, next, bare}
 use Rattle.refusal.specs.declared.Layer.TheVariants as layer

@@ -1,5 +1,5 @@
 -- Tables of units.
-use Rattle.std.specs.Prelude.{ℕ, ◌-◌, ◌≤◌, Bool, cond, ◌&&◌, List, [], ◌∷◌, length, set, Some, None, Option, nat_le, slice_index, slice_index_or, slice_set}
+use Rattle.std.specs.Prelude.{ℕ, ◌-◌, ◌≤◌, Bool, cond, ◌&&◌, List, [], ◌∷◌, length, Some, None, Option, nat_le, slice_index, slice_index_or, slice_set}
 use Rattle.refusal.specs.Answers.{Told, done, refused, next}
 use Rattle.refusal.specs.declared.Layer.TheVariants as layer
 

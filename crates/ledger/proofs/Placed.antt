@@ -2,7 +2,7 @@
 use Rattle.std.proofs.Common.{◌≡◌, ℕ, ◌+◌, ◌-◌, ◌<◌, ◌≤◌, List, ◌++◌, length, get_or, take, drop, ap, ◌∙◌, arith}
 use borrow.Rule.Slice.PartMut.{put_mid}
 use Rattle.std.proofs.lemmas.List.{drop-drop, get_or_append_left, get_or-append-add, get_or-take, get_or-drop, length-take-le, take-append-drop}
-use Rattle.ledger.specs.Files.{put, part}
+use Rattle.ledger.specs.Files.{put}
 
 module _ {X : Type 0} (start : ℕ) (new old : List X) where
   pub put_is : (k : ℕ) → length new ≡ k → put_mid start k old new ≡ put start new old

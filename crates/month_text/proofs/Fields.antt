@@ -1,5 +1,5 @@
 -- One number more of a line.
-use Rattle.std.proofs.Common.{◌≡◌, ℕ, suc, ◌+◌, ◌-◌, Bool, List, [], ◌∷◌, ◌++◌, ℤ, Some, None, Option, refl, append_assoc, append-nil}
+use Rattle.std.proofs.Common.{◌≡◌, ℕ, suc, Bool, List, [], ◌∷◌, ◌++◌, ℤ, Some, None, Option, refl, append_assoc, append-nil}
 use Rattle.month_text.specs.Numbers.{bind, integer_at}
 use Rattle.month_text.specs.Lines.{past, stop, fields_at}
 

@@ -1,5 +1,5 @@
 //! What screens written in C call: the FERC rate, and the test of a month's text. A refusal is told
-//! by its number; 0 is an accepted call.
+//! by its number; 0 is an accepted call. The crate `screens_c` exports them.
 #![tactic(auto)]
 
 ghost use Rattle.std.specs.Prelude.{◌≡◌};
@@ -27,13 +27,7 @@ pub struct TextAnswer {
 }
 
 /// The rate of a FERC year; 0 where it is refused.
-#[unsafe(no_mangle)]
-pub extern "C" fn bulliongnat_ferc_rate(
-    estimate: i64,
-    paid: i64,
-    recovered: i64,
-    volume: u64,
-) -> RateAnswer
+pub fn bulliongnat_ferc_rate(estimate: i64, paid: i64, recovered: i64, volume: u64) -> RateAnswer
     ensures { result ≡ rate_told (rate_rule estimate paid recovered volume) }
 {
     match ferc_rate(estimate, paid, recovered, volume) {
@@ -46,8 +40,7 @@ pub extern "C" fn bulliongnat_ferc_rate(
 }
 
 /// Whether a text is a month's, and else the first refusal.
-#[unsafe(no_mangle)]
-pub extern "C" fn bulliongnat_test_month(text: &[u8]) -> TextAnswer
+pub fn bulliongnat_test_month(text: &[u8]) -> TextAnswer
     ensures { result ≡ text_told (read_month text.now) }
 {
     match read(text) {

@@ -4,7 +4,6 @@ use Rattle.std.proofs.lemmas.Int.{to_z-of_z}
 use Rattle.std.proofs.lemmas.List.{get_or-set_same, get_or-set_other, set_past}
 use Rattle.std.proofs.lemmas.Bool.{le-ltb, or_from, cond-true, cond-false, leb-true, cases_eq, cases_lt}
 use Rattle.refusal.specs.Answers.{done}
-use Rattle.refusal.specs.declared.Layer.TheVariants as layer
 use Rattle.tariff.specs.Heads.{at, within, Small}
 use Rattle.cents.proofs.Options.{cond_some}
 use Rattle.tariff.proofs.Sums.{one}

@@ -5,7 +5,6 @@ use Rattle.ledger.specs.Ledgers.{standing_of, terms_of}
 use Rattle.runs.specs.Orders.{deed_of, outcome_told, CarriedOut, cells_after}
 use Rattle.runs.specs.Runs.{no_deed}
 use Rattle.runs.proofs.Running.{running_none, running_step, running_end, row_fits, read_means}
-use Rattle.runs.proofs.run.run_orders.Given as given
 use Rattle.runs.proofs.run.run_orders.Goals as goal
 
 pub overflow_mul-start : goal.overflow_mul-start

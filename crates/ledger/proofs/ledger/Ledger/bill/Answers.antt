@@ -37,13 +37,13 @@ invariant_of-self-2 g c =
     let rest = rests_small sh g.R.Rule.step g.met.R.Rule.stepped (g.met.R.Rule.long self.rule) (g.met.R.Rule.idle self.rule) (g.met.R.Rule.fair self.rule) pools (rows_read b) (omega (arith, rows_length b.held 0 b.count, (g.met.B.Book.peopled book).1)) p.pools_in p.units_in in
     let small : (i : ℕ) → i < 13 → nat_abs (get_or charges i no_charge).balance ≤ 4000000000 = λ i l. subst (λ (xs : List ComponentCharge). nat_abs (get_or xs i no_charge).balance ≤ 4000000000) (sym e) (rest i l) in
     rw c.close.ensures (
-      record {
-        peopled = (self.peopled.0, self.peopled.1);
-        dated = (self.dated.0, omega (arith, self.dated.1), omega (arith, p.month, (g.met.B.Book.dated book).1));
-        long = closed_long charges self.accounts lc self.long;
-        slots = closed_slots charges self.accounts lc self.long self.slots;
-        small = closed_small charges self.accounts lc self.long 4000000000 small;
-      }
+    record {
+      peopled = (self.peopled.0, self.peopled.1);
+      dated = (self.dated.0, omega (arith, self.dated.1), omega (arith, p.month, (g.met.B.Book.dated book).1));
+      long = closed_long charges self.accounts lc self.long;
+      slots = closed_slots charges self.accounts lc self.long self.slots;
+      small = closed_small charges self.accounts lc self.long 4000000000 small;
+    }
     )
 
 pub returns : goal.returns

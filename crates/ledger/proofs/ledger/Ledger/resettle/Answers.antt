@@ -30,13 +30,13 @@ invariant_of-self-2 g c =
     let small = (change_passed (i + 1) (units_read b i) (shares_again (g.R.Rule.shares self.rule) a b i) (account_at a i).balance (lines_at a c.args.file.now b i) left c.in_ok-left.ensures.told).3 in
     let e = c.settle.ensures ∙ ap (λ (x : ℤ). settled (c.args.component - 1) x a) z in
     rw e (
-      record {
-        peopled = (self.peopled.0, self.peopled.1);
-        dated = (self.dated.0, self.dated.1, self.dated.2);
-        long = length-set a.rows (c.args.component - 1) _ ∙ self.long;
-        slots = λ d l. settled_all (c.args.component - 1) left a p.0 self.long (λ (x : Account). length x.pools ≡ 6) (self.slots (c.args.component - 1) p.0) d (self.slots d l);
-        small = λ d. settled_all (c.args.component - 1) left a p.0 self.long (λ (x : Account). nat_abs x.balance ≤ 4000000000) small d (self.small d);
-      }
+    record {
+      peopled = (self.peopled.0, self.peopled.1);
+      dated = (self.dated.0, self.dated.1, self.dated.2);
+      long = length-set a.rows (c.args.component - 1) _ ∙ self.long;
+      slots = λ d l. settled_all (c.args.component - 1) left a p.0 self.long (λ (x : Account). length x.pools ≡ 6) (self.slots (c.args.component - 1) p.0) d (self.slots d l);
+      small = λ d. settled_all (c.args.component - 1) left a p.0 self.long (λ (x : Account). nat_abs x.balance ≤ 4000000000) small d (self.small d);
+    }
     )
 
 pub returns : goal.returns
