@@ -5,7 +5,7 @@ mod calls;
 ghost use Rattle.std.specs.Prelude.{◌≡◌, ◌≤◌, length, unsigned_abs};
 ghost use Rattle.cents.specs.Cutting.{sum_z};
 ghost use Rattle.tariff.specs.Heads.{Small};
-ghost use Rattle.voucher.specs.declared.voucher.State.TheVariants.{Balanced};
+ghost use Rattle.voucher.specs.declared.voucher.State.TheVariants.{Balanced, Ended};
 
 /// Where a voucher stands.
 #[derive(Clone, Copy, PartialEq, Eq, Debug)]
@@ -14,6 +14,8 @@ pub enum State {
     Open,
     /// The lines add up to the control total.
     Balanced,
+    /// The amounts are handed back. The calls that end a voucher take it apart, so none stands so.
+    Ended,
 }
 
 /// A control total and the amounts of six heads; balanced, they add up to it.
@@ -27,10 +29,10 @@ pub struct Voucher {
     ghost even: { (state ≡ Balanced → sum_z amounts ≡ control) },
 }
 
-// A voucher is spent or struck: letting one go is refused.
+// A voucher is spent or struck: letting one go asks what no call leaves it in, and so is refused.
 impl Drop for Voucher {
     fn drop(self)
-        requires { ⊥ }
+        requires { self.state ≡ Ended }
     {
         let Voucher {
             control: _,
