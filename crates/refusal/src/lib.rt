@@ -7,42 +7,42 @@ ghost use Rattle.refusal.specs.Answers.{number};
 /// Why a call was refused; each has the number that programs print.
 #[derive(Clone, Copy, PartialEq, Eq, Debug)]
 pub enum Refusal {
-    /// 1: a line off the layout.
-    Layout,
-    /// 2: a number outside its range.
-    Range,
-    /// 3: weights that do not add up to 1,000.
-    Weights,
-    /// 4: members 0, above 200, or not the ledger's.
-    Count,
-    /// 5: a month out of range, not open, or not on file.
-    Month,
-    /// 6: a kind that is not 1 to 7, or a component that is not reconciled.
-    Kind,
-    /// 7: a member's place not below the count.
-    Member,
-    /// 8: the total of a kind above 2,000,000,000.
-    Total,
-    /// 9: a pool outside ±4,000,000,000.
-    Pool,
-    /// 10: cents of a resettled line, or the balance after it, out of range.
-    Resettled,
-    /// 11: memory of the wrong length.
-    Length,
-    /// 12: a voucher line's head, or its sum, out of range.
-    Head,
-    /// 13: the control total missed.
-    Control,
-    /// 14: a booked head outside ±4,000,000,000.
-    Booked,
-    /// 15: a pair of kind and member that the book does not take.
-    Pair,
-    /// 16: corrected units below 0 or above 2,000,000,000.
-    Corrected,
-    /// 17: a FERC volume of 0, or a rate outside ±1,000,000.
-    Rate,
-    /// 18: twelve FERC months billed already.
-    Year,
+    /// A line off the layout.
+    Layout = 1,
+    /// A number outside its range.
+    Range = 2,
+    /// Weights that do not add up to 1,000.
+    Weights = 3,
+    /// Members 0, above 200, or not the ledger's.
+    Count = 4,
+    /// A month out of range, not open, or not on file.
+    Month = 5,
+    /// A kind that is not 1 to 7, or a component that is not reconciled.
+    Kind = 6,
+    /// A member's place not below the count.
+    Member = 7,
+    /// The total of a kind above 2,000,000,000.
+    Total = 8,
+    /// A pool outside ±4,000,000,000.
+    Pool = 9,
+    /// Cents of a resettled line, or the balance after it, out of range.
+    Resettled = 10,
+    /// Memory of the wrong length.
+    Length = 11,
+    /// A voucher line's head, or its sum, out of range.
+    Head = 12,
+    /// The control total missed.
+    Control = 13,
+    /// A booked head outside ±4,000,000,000.
+    Booked = 14,
+    /// A pair of kind and member that the book does not take.
+    Pair = 15,
+    /// Corrected units below 0 or above 2,000,000,000.
+    Corrected = 16,
+    /// A FERC volume of 0, or a rate outside ±1,000,000.
+    Rate = 17,
+    /// Twelve FERC months billed already.
+    Year = 18,
 }
 
 /// The part whose check failed.
@@ -69,26 +69,7 @@ impl Refusal {
     pub fn number(self) -> u32
         ensures { result ≡ number self }
     {
-        match self {
-            Refusal::Layout => 1,
-            Refusal::Range => 2,
-            Refusal::Weights => 3,
-            Refusal::Count => 4,
-            Refusal::Month => 5,
-            Refusal::Kind => 6,
-            Refusal::Member => 7,
-            Refusal::Total => 8,
-            Refusal::Pool => 9,
-            Refusal::Resettled => 10,
-            Refusal::Length => 11,
-            Refusal::Head => 12,
-            Refusal::Control => 13,
-            Refusal::Booked => 14,
-            Refusal::Pair => 15,
-            Refusal::Corrected => 16,
-            Refusal::Rate => 17,
-            Refusal::Year => 18,
-        }
+        self as u32
     }
 }
 
@@ -97,11 +78,7 @@ impl Layer {
     pub fn refuses(self, refusal: Refusal) -> Fault
         ensures { result ≡ record { refusal = refusal; layer = self; place = 0 } }
     {
-        Fault {
-            refusal,
-            layer: self,
-            place: 0,
-        }
+        self.refuses_at(refusal, 0)
     }
 
     /// This layer's refusal at a line, a kind or a component.
