@@ -116,7 +116,7 @@ fn others(rt: &HostRuntime, table: TableBook) -> io::Result<()> {
     show(rt, "standing", &book, 1, 0)?;
     show(rt, "standing", &book, 6, 0)?;
     let mut facts = FactBook::blank();
-    let row = Facts::of([300, 100, 5, 6, 0, 10, 2, 0, 30, 0, 4]);
+    let row = Facts::from([300, 100, 5, 6, 0, 10, 2, 0, 30, 0, 4]);
     told(rt, "facts", facts.fill(24_278, &[row]))?;
     show(rt, "facts", &facts, 3, 0)?;
     show(rt, "facts", &facts, 4, 0)?;

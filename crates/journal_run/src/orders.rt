@@ -24,7 +24,7 @@ impl Orders {
 }
 
 fn month_facts(month: &Month) -> [Facts; 32] {
-    let mut facts = [Facts::of([0; 11]); 32];
+    let mut facts = [Facts::from([0; 11]); 32];
     for i in 0..32 {
         facts[i] = month.members[i].facts;
     }

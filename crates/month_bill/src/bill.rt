@@ -50,7 +50,7 @@ fn charge_by<R: Rule>(rule: &R, month: &Month, pools: [i64; 13]) -> Result<Bill,
     ensures { answer_by (λ bill. (bill.components, take month.now.count bill.members)) result ≡ charge_members (R.shares rule.now) month.now.month pools (take month.now.count month.now.members) }
 {
     let count = month.count;
-    let mut facts = [Facts::of([0; 11]); 32];
+    let mut facts = [Facts::from([0; 11]); 32];
     let mut units = [[0u32; 7]; 32];
     let mut statement = [0i64; 416];
     let blank = MemberCharge {

@@ -21,7 +21,7 @@ fn member_of(row: [u32; 12]) -> Member
     ];
     Member {
         account: row[0],
-        facts: Facts::of(facts),
+        facts: Facts::from(facts),
     }
 }
 
@@ -31,7 +31,7 @@ fn blank() -> Member
 {
     Member {
         account: 0,
-        facts: Facts::of([0; 11]),
+        facts: Facts::from([0; 11]),
     }
 }
 

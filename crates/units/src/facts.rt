@@ -21,11 +21,11 @@ pub struct Facts {
     pub invoices: u32,
 }
 
-impl Facts {
-    /// The facts from a row of eleven numbers.
-    pub fn of(row: [u32; 11]) -> Facts
-        ensures { result ≡ facts_of row }
-    {
+/// The facts from a row of eleven numbers.
+impl From<[u32; 11]> for Facts {
+    ghost from_gives = { λ row facts. facts ≡ facts_of row };
+
+    fn from(row: [u32; 11]) -> Facts {
         Facts {
             transmission: row[0],
             wheel_through: row[1],
@@ -40,7 +40,9 @@ impl Facts {
             invoices: row[10],
         }
     }
+}
 
+impl Facts {
     /// Whether each fact is at most 100,000,000 and wheel-through is not above transmission.
     pub fn lawful(&self) -> bool
         ensures { result ≡ lawful self.now }
