@@ -8,9 +8,10 @@ ghost use Rattle.tariff.specs.Heads.{Small, within, sums, book_rule};
 use refusal::{Fault, Layer, Refusal};
 
 /// No head is beyond this, on either side of 0.
-const MOST: i64 = 4_000_000_000;
+const MOST: u64 = 4_000_000_000;
 
-/// Six amounts, each within ±4,000,000,000.
+/// Six amounts, each within ±4,000,000,000. Their number is written out too: the proofs of a struct
+/// that holds heads do not know it from the array's type.
 #[derive(Clone, Copy)]
 pub struct Heads {
     amounts: [i64; 6],
@@ -22,21 +23,18 @@ pub struct Heads {
 pub fn add_to_head(held: i64, amount: i64) -> Option<i64>
     ensures { result ≡ (if within (held +ℤ amount) then Some (held +ℤ amount) else None) }
 {
-    match held.checked_add(amount) {
-        Some(sum) if -MOST <= sum && sum <= MOST => Some(sum),
-        _ => None,
-    }
+    held.checked_add(amount)
+        .filter(|sum| sum.unsigned_abs() <= MOST)
 }
 
 /// Each head with its amount, where all of them stay in range.
-fn summed(heads: [i64; 6], amounts: [i64; 6]) -> Option<[i64; 6]>
+fn summed(mut heads: [i64; 6], amounts: [i64; 6]) -> Option<[i64; 6]>
     ensures { result ≡ (if all_pass within (sums heads amounts) then Some (sums heads amounts) else None) }
 {
-    let mut out = [0i64; 6];
-    for i in 0..6 {
-        out[i] = add_to_head(heads[i], amounts[i])?;
+    for (i, amount) in amounts.iter().enumerate() {
+        heads[i] = add_to_head(heads[i], *amount)?;
     }
-    Some(out)
+    Some(heads)
 }
 
 impl Heads {
@@ -49,10 +47,10 @@ impl Heads {
 
     /// The six amounts.
     pub fn amounts(&self) -> [i64; 6]
-        ensures { result ≡ self.now.amounts }
+        ensures amounts { result ≡ self.now.amounts }
+        ensures small { Small result }
     {
-        let Heads { amounts } = self;
-        *amounts
+        self.amounts
     }
 
     /// Adds an amount to each head, or refuses where a head would go out of range.
@@ -63,7 +61,7 @@ impl Heads {
         let Some(sums) = summed(self.amounts, amounts) else {
             return Err(Layer::Ledger.refuses(Refusal::Booked));
         };
-        self.amounts = sums;
+        *self = Heads { amounts: sums };
         Ok(())
     }
 }

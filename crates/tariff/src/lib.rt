@@ -3,5 +3,6 @@
 
 pub mod costs;
 pub mod heads;
+mod parts;
 pub mod settlement;
 pub mod sheet;

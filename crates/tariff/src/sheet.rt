@@ -13,8 +13,6 @@ pub struct Sheet {
     division: [u32; 6],
     management: [u32; 4],
     split: [u32; 2],
-    ghost six: { length division ≡ 6 },
-    ghost four: { length management ≡ 4 },
     ghost divided: { sum division ≡ 1000 },
     ghost managed: { sum management ≡ 1000 },
     ghost parted: { thousandths split ≡ true },

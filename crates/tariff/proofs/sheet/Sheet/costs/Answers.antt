@@ -32,5 +32,5 @@ returns c =
     ∙ ap (components sheet.split) c.service_costs.ensures in
     let a = ap (λ (s : List ℕ). get_or s 0 0) c.split-split.ensures.parts in
     let b = ap (λ (s : List ℕ). get_or s 1 0) c.split-split.ensures.parts in
-    let t = costs_sum sheet.division sheet.management sheet.split heads sheet.six sheet.four c.args.heads.now.long (omega (arith, sheet.divided)) (omega (arith, sheet.managed)) (omega (arith, split_small c 0 (omega arith))) (omega (arith, split_small c 1 (omega arith))) in
+    let t = costs_sum sheet.division sheet.management sheet.split heads (omega arith) (omega arith) c.args.heads.now.long (omega (arith, sheet.divided)) (omega (arith, sheet.managed)) (omega (arith, split_small c 0 (omega arith))) (omega (arith, split_small c 1 (omega arith))) in
     record { value = v; whole = ap sum_z v ∙ t; small = subst (Bounded 12000000000) (sym v) (costs_bounded sheet.division sheet.management sheet.split heads c.args.heads.now.small) }

@@ -1,0 +1,48 @@
+//! How division cost is parted, and its management part again.
+ghost use Rattle.std.specs.Prelude.{◌≡◌, ◌<◌};
+ghost use Rattle.tariff.specs.Costs.{divided, managed, service, settlement};
+ghost use Rattle.tariff.specs.Heads.{Small};
+
+use crate::heads::Heads;
+use crate::sheet::Sheet;
+use cents::cutting::cut;
+
+/// The division parts (9-1 to 9-4, management, settlement), and the management part's own four:
+/// in range, as the head is that they are cut from.
+#[derive(Clone, Copy)]
+pub(crate) struct Parts {
+    division: [i64; 6],
+    management: [i64; 4],
+    ghost divided: { Small division },
+    ghost managed: { Small management },
+}
+
+impl Parts {
+    /// The parts of the heads' division cost by a sheet.
+    pub(crate) fn cut(sheet: &Sheet, heads: &Heads) -> Parts
+        ensures division { result.division ≡ divided sheet.now.division heads.now.amounts }
+        ensures management { result.management ≡ managed sheet.now.division sheet.now.management heads.now.amounts }
+    {
+        let division = cut(heads.amounts()[0], sheet.division());
+        let management = cut(division[4], sheet.management());
+        Parts {
+            division,
+            management,
+        }
+    }
+
+    /// The cost of one of 9-1 to 9-4: its division part, its management part, its non-divisional cost.
+    pub(crate) fn service(&self, heads: &Heads, i: usize) -> i64
+        requires { i < 4 }
+        ensures { result ≡ service self.now.division self.now.management heads.now.amounts i }
+    {
+        self.division[i] + self.management[i] + heads.amounts()[i + 1]
+    }
+
+    /// Settlement cost: its division part and its non-divisional cost.
+    pub(crate) fn settlement(&self, heads: &Heads) -> i64
+        ensures { result ≡ settlement self.now.division heads.now.amounts }
+    {
+        self.division[5] + heads.amounts()[5]
+    }
+}
