@@ -24,7 +24,6 @@ pub struct Voucher {
     amounts: [i64; 6],
     state: State,
     ghost bounded: { unsigned_abs control ≤ 24000000000 },
-    ghost long: { length amounts ≡ 6 },
     ghost small: { Small amounts },
     ghost even: { (state ≡ Balanced → sum_z amounts ≡ control) },
 }

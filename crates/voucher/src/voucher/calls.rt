@@ -11,14 +11,14 @@ use refusal::{Fault, Layer, Refusal};
 use tariff::heads::add_to_head;
 
 /// No control total is beyond this, on either side of 0.
-const MOST_CONTROL: i64 = 24_000_000_000;
+const MOST_CONTROL: u64 = 24_000_000_000;
 
 impl Voucher {
     /// Opens a voucher for a control total.
     pub fn open(control: i64) -> Result<Voucher, Fault>
         ensures { answer_by (λ v. (v.control, v.amounts, v.state)) result ≡ open_rule control }
     {
-        if control < -MOST_CONTROL || control > MOST_CONTROL {
+        if control.unsigned_abs() > MOST_CONTROL {
             return Err(Layer::Voucher.refuses(Refusal::Range));
         }
         Ok(Voucher {
@@ -35,7 +35,7 @@ impl Voucher {
         ensures state { self.new.state ≡ line_state (line_rule self.old.amounts head amount) self.old.state }
         ensures control { self.new.control ≡ self.old.control }
     {
-        if head < 1 || head > 6 {
+        if !(1..=6).contains(&head) {
             return Err(Layer::Voucher.refuses(Refusal::Head));
         }
         let i = head as usize - 1;

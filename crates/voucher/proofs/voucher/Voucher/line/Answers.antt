@@ -1,20 +1,16 @@
-use Rattle.std.proofs.Common.{sym, ap, arith, rules}
-use Rattle.refusal.specs.Answers.{bare, after}
-use Rattle.voucher.specs.Calls.{line_state}
-use Rattle.voucher.proofs.Lines.{line_done, line_small}
+use Rattle.std.proofs.Common.{◌-◌, w64, arith, rules, ◌∙◌}
+use Rattle.std.proofs.lemmas.Grind.{common_steps}
+use Rattle.std.proofs.lemmas.Bool.{leb-true}
+use Rattle.std.proofs.lemmas.Int.{to_z-of_z}
+use Rattle.cents.proofs.Options.{cond_some}
+use Rattle.voucher.proofs.Lines.{small_set}
 use Rattle.voucher.proofs.voucher.Voucher.line.Goals as goal
 
-pub invariant_of-self : goal.invariant_of-self
-invariant_of-self c =
-    let s = line_small c.args.self.now.amounts c.args.head c.args.amount c.in-Some.sum (search rules) c.ranges.amount (search rules) c.in-Some.ensures c.args.self.now.small in
-    record { bounded = c.args.self.now.bounded; long = search rules; small = s; even = search rules }
+pub invariant_of-self-clause-small : goal.invariant_of-self-clause-small
+invariant_of-self-clause-small c =
+    let s = cond_some _ _ _ c.in-Some.ensures in
+    let e = to_z-of_z w64 c.in-Some.sum (search rules) ∙ s.1 in
+    small_set c.args.self.now.amounts (c.args.head - 1) _ (rw e (leb-true _ 4000000000 s.0)) c.args.self.now.small
 
-pub returns : goal.returns
-returns c =
-    let t = line_done c.args.self.now.amounts c.args.head c.args.amount c.in-Some.sum (search rules) c.ranges.amount (search rules) c.in-Some.ensures (omega arith) (omega arith) in
-    record {
-      told = ap bare (sym t);
-      amounts = ap (λ t. after t (λ amounts. amounts) c.args.self.now.amounts) (sym t);
-      state = ap (λ t. line_state t c.args.self.now.state) (sym t);
-      control = search rules;
-    }
+pub returns-clause-state : goal.returns-clause-state
+returns-clause-state c = grind (arith, common_steps)
