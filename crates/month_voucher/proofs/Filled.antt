@@ -4,7 +4,6 @@ use borrow.Author.Differences.{ints}
 use Rattle.std.proofs.lemmas.List.{drop_more, drop_all, get_or_at, set_at, append_assoc, length_push}
 use Rattle.refusal.specs.Answers.{Told, done, refused, next, bare, after}
 use Rattle.refusal.specs.declared.Layer.{Layer}
-use Rattle.refusal.proofs.Apart.{refused_done}
 use Rattle.refusal.specs.declared.Layer.TheVariants as layer
 use Rattle.tariff.specs.Heads.{at, within}
 use Rattle.voucher.specs.Calls.{open_rule, line_rule, missed, balance_rule}
@@ -20,20 +19,17 @@ lines_step amounts cost i l = ap (lines_rule amounts (i + 1)) (drop_more cost i 
 pub lines_end : (amounts cost : List ℤ) (i : ℕ) → length cost ≤ i → lines_rule amounts (i + 1) (drop i cost) ≡ done amounts
 lines_end amounts cost i l = ap (lines_rule amounts (i + 1)) (drop_all i cost l)
 
-done_same : {T : Type 0} (u v : T) → done u ≡ done v → u ≡ v
-done_same u v e = cc
-
 done_cond : {T : Type 0} (b : Bool) (n : ℕ) (l : Layer) (p : ℕ) (u v : T) → done u ≡ cond b (done v) (refused n l p) → u ≡ v
 done_cond true n l p u v e = cc
-done_cond false n l p u v e = absurd (refused_done n l p u (sym e))
+done_cond false n l p u v e = cc
 
 bare_next : {S T : Type 0} (t : Told S) (k : S → Told T) (n : ℕ) (l : Layer) (p : ℕ) → refused n l p ≡ bare t → refused n l p ≡ bare (next t k)
-bare_next (done v) k n l p e = absurd (refused_done n l p tt e)
+bare_next (done v) k n l p e = cc
 bare_next (refused m j q) k n l p e = e
 
 done_after : (t : Told (List ℤ)) (old new : List ℤ) → done tt ≡ bare t → new ≡ after t (λ a. a) old → t ≡ done new
 done_after (done v) old new e f = ap done (sym f)
-done_after (refused m j q) old new e f = absurd (refused_done m j q tt (sym e))
+done_after (refused m j q) old new e f = cc
 
 module _ (amounts cost : List ℤ) (whole : Told (List ℤ)) (i : ℕ) (x : ℤ) (l : i < length cost) (ex : x ≡ get_or cost i (pos 0)) (inv : lines_rule amounts (i + 1) (drop i cost) ≡ whole) where
   step : next (line_rule amounts (i + 1) x) (λ held. lines_rule held (i + 1 + 1) (drop (i + 1) cost)) ≡ whole
@@ -48,16 +44,16 @@ module _ (amounts cost : List ℤ) (whole : Told (List ℤ)) (i : ℕ) (x : ℤ)
 
 -- a chain of lines that is done went through its first line
 gone : {S T : Type 0} (a b : Bool) (v : S) (k : S → Told T) (x : T) → next (cond a (refused 12 layer.Voucher 0) (cond b (done v) (refused 12 layer.Voucher 0))) k ≡ done x → k v ≡ done x
-gone true b v k x e = absurd (refused_done 12 layer.Voucher 0 x e)
+gone true b v k x e = cc
 gone false true v k x e = e
-gone false false v k x e = absurd (refused_done 12 layer.Voucher 0 x e)
+gone false false v k x e = cc
 
 through : (amounts : List ℤ) (head : ℕ) (c : ℤ) (k : List ℤ → Told (List ℤ)) (x : List ℤ) → next (line_rule amounts head c) k ≡ done x → k (set amounts (head - 1) (at amounts (head - 1) +ℤ c)) ≡ done x
 through amounts head c k x e = gone (ltb head 1 || ltb 6 head) (within (at amounts (head - 1) +ℤ c)) (set amounts (head - 1) (at amounts (head - 1) +ℤ c)) k x e
 
 -- lines on empty heads leave just their amounts
 filled : (pre cost x : List ℤ) → lines_rule (pre ++ replicate (length cost) (pos 0)) (length pre + 1) cost ≡ done x → x ≡ pre ++ cost
-filled pre [] x e = sym (done_same (pre ++ []) x e)
+filled pre [] x e = cc
 filled pre (c ∷ cost) x e =
     let held = pre ++ (pos 0 ∷ replicate (length cost) (pos 0)) in
     let n : length pre + 1 - 1 ≡ length pre = omega arith in
@@ -70,12 +66,12 @@ filled pre (c ∷ cost) x e =
 
 -- a voucher that is filled and balanced has all its lines
 balanced : (b : Bool) (full x : List ℤ) → next {S = Unit {0}} (cond {A = Told (Unit {0})} b (done tt) (refused 13 layer.Voucher 0)) (λ _. done full) ≡ done x → full ≡ x
-balanced true full x e = done_same full x e
-balanced false full x e = absurd (refused_done 13 layer.Voucher 0 x e)
+balanced true full x e = cc
+balanced false full x e = cc
 
 lined : (control : ℤ) (t : Told (List ℤ)) (x : List ℤ) → next t (λ amounts. next (balance_rule control amounts) (λ _. done amounts)) ≡ done x → t ≡ done x
 lined control (done full) x e = ap done (balanced (eqb (missed control full) 0) full x e)
-lined control (refused n l p) x e = absurd (refused_done n l p x e)
+lined control (refused n l p) x e = cc
 
 full_lines : (control : ℤ) (held cost x : List ℤ) → fill_rule control held cost ≡ done x → lines_rule held 1 cost ≡ done x
 full_lines control held cost x e = lined control (lines_rule held 1 cost) x e
@@ -99,5 +95,5 @@ module _ (control x : ℤ) (cost held : List ℤ) (c : ℤ) (s : State) (ex : x 
       filled [] cost full (rw (n, ← (opened x c held s o).1) l)
 
 pub unbare : {T : Type 0} (t : Told T) (n : ℕ) (l : Layer) (p : ℕ) → refused n l p ≡ bare t → refused n l p ≡ t
-unbare (done v) n l p e = absurd (refused_done n l p tt e)
+unbare (done v) n l p e = cc
 unbare (refused m j q) n l p e = cc

@@ -16,8 +16,8 @@ fn add_lines(voucher: &mut Voucher, cost: [i64; 6]) -> Result<(), Fault>
     ensures amounts { OnOk result (lines_rule voucher.old.amounts 1 cost ≡ done voucher.new.amounts) }
     ensures control { voucher.new.control ≡ voucher.old.control }
 {
-    for i in 0..6 {
-        voucher.line(i as u32 + 1, cost[i])?;
+    for (i, amount) in cost.iter().enumerate() {
+        voucher.line(i as u32 + 1, *amount)?;
     }
     Ok(())
 }
@@ -40,14 +40,11 @@ pub fn cost_voucher(control: i64, cost: [i64; 6]) -> Result<Voucher, Fault>
     ensures whole { IfOk result (λ v. (v.control ≡ control) × (v.amounts ≡ cost)) }
 {
     let mut voucher = Voucher::open(control)?;
-    let filled = fill(&mut voucher, cost);
-    match filled {
-        Ok(()) => Ok(voucher),
-        Err(fault) => {
-            let _ = voucher.strike();
-            Err(fault)
-        }
+    if let Err(fault) = fill(&mut voucher, cost) {
+        let _ = voucher.strike();
+        return Err(fault);
     }
+    Ok(voucher)
 }
 
 /// The amounts that a month's costs book, which add up to the control total.
