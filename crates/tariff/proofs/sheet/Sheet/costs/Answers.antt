@@ -1,21 +1,16 @@
-use Rattle.std.proofs.Common.{◌≡◌, ℕ, ◌<◌, ◌≤◌, leb, List, get_or, ℤ, sym, ap, ◌∙◌, subst, arith, w64, to_z, of_z, rules}
+use Rattle.std.proofs.Common.{◌≡◌, ℕ, List, ℤ, sym, ap, ◌∙◌, subst, arith, w64, to_z, of_z, rules}
 use Rattle.std.proofs.lemmas.Int.{to_z-of_z}
 use Rattle.cents.specs.Cutting.{sum_z}
 use Rattle.tariff.specs.Heads.{at}
 use Rattle.tariff.specs.Costs.{components, costs, Bounded}
-use Rattle.std.proofs.lemmas.Bool.{leb-true}
-use Rattle.cents.proofs.Passes.{pass_at}
-use Rattle.tariff.proofs.Totals.{components_are, costs_sum, costs_bounded}
+use Rattle.tariff.proofs.Totals.{components_are, costs_sum, costs_bounded, thousandths_at}
 use Rattle.tariff.proofs.sheet.Sheet.costs.Goals as goal
 
 pub halves-second-requires : goal.halves-second-requires
-halves-second-requires c = leb-true _ 1000 (pass_at (λ n. leb n 1000) c.split-split.result 0 0 (omega arith) c.split-split.ensures.small)
+halves-second-requires c = thousandths_at c.split-split.result c.split-split.ensures.small 0
 
 pub halves-third-requires : goal.halves-third-requires
-halves-third-requires c = leb-true _ 1000 (pass_at (λ n. leb n 1000) c.split-split.result 1 0 (omega arith) c.split-split.ensures.small)
-
-split_small : (c : goal.After-joined) (k : ℕ) → k < 2 → get_or c.split-split.result k 0 ≤ 1000
-split_small c k h = leb-true _ 1000 (pass_at (λ n. leb n 1000) c.split-split.result k 0 (omega arith) c.split-split.ensures.small)
+halves-third-requires c = thousandths_at c.split-split.result c.split-split.ensures.small 1
 
 pub returns : goal.returns
 returns c =
@@ -30,7 +25,5 @@ returns c =
     c.halves-second.ensures.parts c.halves-third.ensures.parts c.settlement_parts.ensures.parts
     ∙ ap (λ (s : List ℕ). components s five) c.split-split.ensures.parts
     ∙ ap (components sheet.split) c.service_costs.ensures in
-    let a = ap (λ (s : List ℕ). get_or s 0 0) c.split-split.ensures.parts in
-    let b = ap (λ (s : List ℕ). get_or s 1 0) c.split-split.ensures.parts in
-    let t = costs_sum sheet.division sheet.management sheet.split heads (omega arith) (omega arith) c.args.heads.now.long (omega (arith, sheet.divided)) (omega (arith, sheet.managed)) (omega (arith, split_small c 0 (omega arith))) (omega (arith, split_small c 1 (omega arith))) in
+    let t = costs_sum sheet.division sheet.management sheet.split heads (omega arith) (omega arith) c.args.heads.now.long (omega (arith, sheet.divided)) (omega (arith, sheet.managed)) sheet.parted in
     record { value = v; whole = ap sum_z v ∙ t; small = subst (Bounded 12000000000) (sym v) (costs_bounded sheet.division sheet.management sheet.split heads c.args.heads.now.small) }
