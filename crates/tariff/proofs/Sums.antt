@@ -1,11 +1,11 @@
 -- Sums of heads, place by place.
-use Rattle.std.proofs.Common.{◌≡◌, ℕ, zero, suc, ◌+◌, ◌<◌, ◌≤◌, true, cond, List, [], ◌∷◌, length, get_or, take, set, ℤ, pos, ◌+ℤ◌, nat_abs, Some, None, Option, sym, refl, ap, ◌∙◌, ⊎_elim, arith}
-use Rattle.std.proofs.lemmas.List.{get_or_past, take_more, take_more_set, take_all}
-use Rattle.std.proofs.lemmas.Bool.{leb-true, cases_lt, cond-true, cond-false}
+use Rattle.std.proofs.Common.{◌≡◌, ℕ, zero, suc, ◌+◌, ◌<◌, ◌≤◌, true, cond, List, [], ◌∷◌, length, get_or, take, set, ℤ, pos, ◌+ℤ◌, Some, None, Option, sym, refl, ap, ◌∙◌, arith}
+use Rattle.std.proofs.lemmas.List.{take_more, take_more_set, take_all}
+use Rattle.std.proofs.lemmas.Bool.{cond-true, cond-false}
 use Rattle.cents.specs.Passes.{all_pass}
 use Rattle.cents.proofs.Options.{cond_none, cond_some}
-use Rattle.cents.proofs.Passes.{pass_at, pass_more, pass_not}
-use Rattle.tariff.specs.Heads.{at, within, sums, Small}
+use Rattle.cents.proofs.Passes.{pass_more, pass_not}
+use Rattle.tariff.specs.Heads.{within, sums}
 
 pub sums_length : (hs as' : List ℤ) → length hs ≡ length as' → length (sums hs as') ≡ length hs
 sums_length [] as' e = refl
@@ -17,12 +17,6 @@ sums_at [] as' i l m = absurd (omega arith)
 sums_at (h ∷ hs) [] i l m = absurd (omega arith)
 sums_at (h ∷ hs) (a ∷ as') zero l m = refl
 sums_at (h ∷ hs) (a ∷ as') (suc i) l m = sums_at hs as' i (omega arith) (omega arith)
-
-pub small_passed : (zs : List ℤ) → all_pass within zs ≡ true → Small zs
-small_passed zs h k =
-    ⊎_elim (λ (l : k < length zs). leb-true (nat_abs (at zs k)) 4000000000 (pass_at within zs k (pos 0) l h))
-    (λ (l : length zs ≤ k). rw (get_or_past zs k (pos 0) l) (omega arith))
-    (cases_lt k (length zs))
 
 -- all sums, or nothing where one is out of range
 abbrev pub tried : List ℤ → List ℤ → Option (List ℤ)
@@ -56,8 +50,3 @@ sums_end hs as' out i same lh lo t p =
     let a = take_all i (sums hs as') (omega (arith, sums_length hs as' same)) in
     let o : out ≡ sums hs as' = sym (take_all i out lo) ∙ t ∙ a in
     ap Some o ∙ sym (cond-true _ (Some (sums hs as')) None (ap (all_pass within) (sym a) ∙ p))
-
-pub tried_small : (hs as' zs : List ℤ) → Some zs ≡ tried hs as' → Small zs
-tried_small hs as' zs e =
-    let s = cond_some (all_pass within (sums hs as')) (sums hs as') zs e in
-    rw s.1 (small_passed (sums hs as') s.0)

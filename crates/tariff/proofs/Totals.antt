@@ -54,13 +54,13 @@ costs_bounded division management split heads h =
     components_bounded 12000000000 split (service_costs division management heads) (services_bounded division management heads h)
 
 -- a weight or a split is at most a whole
-pub thousandths_at : (ns : List ℕ) → thousandths ns ≡ true → (k : ℕ) → get_or ns k 0 ≤ 1000
+thousandths_at : (ns : List ℕ) → thousandths ns ≡ true → (k : ℕ) → get_or ns k 0 ≤ 1000
 thousandths_at [] h k = omega arith
 thousandths_at (n ∷ ns) h zero = leb-true n 1000 (and_parts (leb n 1000) (thousandths ns) h).0
 thousandths_at (n ∷ ns) h (suc k) = thousandths_at ns (and_parts (leb n 1000) (thousandths ns) h).1 k
 
 -- the one computed test of the settlement table
-pub settlement_whole : sum settlement_weights ≡ 100000
+settlement_whole : sum settlement_weights ≡ 100000
 settlement_whole = refl
 
 -- thirteen components add up to the five costs that they are cut from

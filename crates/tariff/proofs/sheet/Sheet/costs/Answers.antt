@@ -3,14 +3,8 @@ use Rattle.std.proofs.lemmas.Int.{to_z-of_z}
 use Rattle.cents.specs.Cutting.{sum_z}
 use Rattle.tariff.specs.Heads.{at}
 use Rattle.tariff.specs.Costs.{components, costs, Bounded}
-use Rattle.tariff.proofs.Totals.{components_are, costs_sum, costs_bounded, thousandths_at}
+use Rattle.tariff.proofs.Totals.{components_are, costs_sum, costs_bounded}
 use Rattle.tariff.proofs.sheet.Sheet.costs.Goals as goal
-
-pub halves-second-requires : goal.halves-second-requires
-halves-second-requires c = thousandths_at c.split-split.result c.split-split.ensures.small 0
-
-pub halves-third-requires : goal.halves-third-requires
-halves-third-requires c = thousandths_at c.split-split.result c.split-split.ensures.small 1
 
 pub returns : goal.returns
 returns c =
