@@ -1,8 +1,8 @@
--- Lines added one head after the other.
-use Rattle.std.proofs.Common.{◌≡◌, ℕ, ◌+◌, ◌-◌, ◌<◌, ◌≤◌, Bool, true, false, cond, ◌||◌, eqb, ltb, leb, List, [], ◌∷◌, ◌++◌, length, get_or, drop, set, replicate, ℤ, pos, ◌+ℤ◌, nat_abs, sym, refl, ap, ◌∙◌, arith}
+-- A voucher that took all its lines holds the costs.
+use Rattle.std.proofs.Common.{◌≡◌, ℕ, ◌+◌, ◌-◌, Bool, true, false, cond, ◌||◌, eqb, ltb, leb, List, [], ◌∷◌, ◌++◌, length, set, replicate, ℤ, pos, ◌+ℤ◌, nat_abs, sym, refl, ap, ◌∙◌, arith}
 use borrow.Author.Differences.{ints}
-use Rattle.std.proofs.lemmas.List.{drop_more, drop_all, get_or_at, set_at, append_assoc, length_push}
-use Rattle.refusal.specs.Answers.{Told, done, refused, next, bare, after}
+use Rattle.std.proofs.lemmas.List.{get_or_at, set_at, append_assoc, length_push}
+use Rattle.refusal.specs.Answers.{Told, done, refused, next, bare}
 use Rattle.refusal.specs.declared.Layer.{Layer}
 use Rattle.refusal.specs.declared.Layer.TheVariants as layer
 use Rattle.tariff.specs.Heads.{at, within}
@@ -11,36 +11,9 @@ use Rattle.voucher.specs.declared.voucher.State.{State}
 use Rattle.voucher.specs.declared.voucher.State.TheVariants.{Open}
 use Rattle.month_voucher.specs.Costs.{lines_rule, fill_rule, cost_rule}
 
--- what is left of the lines, one step on
-pub lines_step : (amounts cost : List ℤ) (i : ℕ) → i < length cost
-    → lines_rule amounts (i + 1) (drop i cost) ≡ next (line_rule amounts (i + 1) (get_or cost i (pos 0))) (λ held. lines_rule held (i + 1 + 1) (drop (i + 1) cost))
-lines_step amounts cost i l = ap (lines_rule amounts (i + 1)) (drop_more cost i (pos 0) l)
-
-pub lines_end : (amounts cost : List ℤ) (i : ℕ) → length cost ≤ i → lines_rule amounts (i + 1) (drop i cost) ≡ done amounts
-lines_end amounts cost i l = ap (lines_rule amounts (i + 1)) (drop_all i cost l)
-
 done_cond : {T : Type 0} (b : Bool) (n : ℕ) (l : Layer) (p : ℕ) (u v : T) → done u ≡ cond b (done v) (refused n l p) → u ≡ v
 done_cond true n l p u v e = cc
 done_cond false n l p u v e = cc
-
-bare_next : {S T : Type 0} (t : Told S) (k : S → Told T) (n : ℕ) (l : Layer) (p : ℕ) → refused n l p ≡ bare t → refused n l p ≡ bare (next t k)
-bare_next (done v) k n l p e = cc
-bare_next (refused m j q) k n l p e = e
-
-done_after : (t : Told (List ℤ)) (old new : List ℤ) → done tt ≡ bare t → new ≡ after t (λ a. a) old → t ≡ done new
-done_after (done v) old new e f = ap done (sym f)
-done_after (refused m j q) old new e f = cc
-
-module _ (amounts cost : List ℤ) (whole : Told (List ℤ)) (i : ℕ) (x : ℤ) (l : i < length cost) (ex : x ≡ get_or cost i (pos 0)) (inv : lines_rule amounts (i + 1) (drop i cost) ≡ whole) where
-  step : next (line_rule amounts (i + 1) x) (λ held. lines_rule held (i + 1 + 1) (drop (i + 1) cost)) ≡ whole
-  step = rw ex (sym (lines_step amounts cost i l) ∙ inv)
-
-  -- a refused line refuses the whole
-  pub lines_stop : (n : ℕ) (j : Layer) (p : ℕ) → refused n j p ≡ bare (line_rule amounts (i + 1) x) → refused n j p ≡ bare whole
-  lines_stop n j p e = bare_next (line_rule amounts (i + 1) x) (λ held. lines_rule held (i + 1 + 1) (drop (i + 1) cost)) n j p e ∙ ap bare step
-
-  pub lines_more : (new : List ℤ) → done tt ≡ bare (line_rule amounts (i + 1) x) → new ≡ after (line_rule amounts (i + 1) x) (λ a. a) amounts → lines_rule new (i + 1 + 1) (drop (i + 1) cost) ≡ whole
-  lines_more new e f = ap (λ t. next t (λ held. lines_rule held (i + 1 + 1) (drop (i + 1) cost))) (sym (done_after (line_rule amounts (i + 1) x) amounts new e f)) ∙ step
 
 -- a chain of lines that is done went through its first line
 gone : {S T : Type 0} (a b : Bool) (v : S) (k : S → Told T) (x : T) → next (cond a (refused 12 layer.Voucher 0) (cond b (done v) (refused 12 layer.Voucher 0))) k ≡ done x → k v ≡ done x
@@ -73,9 +46,6 @@ lined : (control : ℤ) (t : Told (List ℤ)) (x : List ℤ) → next t (λ amou
 lined control (done full) x e = ap done (balanced (eqb (missed control full) 0) full x e)
 lined control (refused n l p) x e = cc
 
-full_lines : (control : ℤ) (held cost x : List ℤ) → fill_rule control held cost ≡ done x → lines_rule held 1 cost ≡ done x
-full_lines control held cost x e = lined control (lines_rule held 1 cost) x e
-
 -- what an opened voucher holds
 opened : (control : ℤ) (c : ℤ) (a : List ℤ) (s : State) → done (c, a, s) ≡ open_rule control → (c ≡ control) × (a ≡ replicate 6 (pos 0))
 opened control c a s e =
@@ -91,7 +61,7 @@ module _ (control x : ℤ) (cost held : List ℤ) (c : ℤ) (s : State) (ex : x 
 
   pub cost_full : (full : List ℤ) → length cost ≡ 6 → fill_rule control held cost ≡ done full → full ≡ cost
   cost_full full n f =
-      let l = full_lines control held cost full f in
+      let l = lined control (lines_rule held 1 cost) full f in
       filled [] cost full (rw (n, ← (opened x c held s o).1) l)
 
 pub unbare : {T : Type 0} (t : Told T) (n : ℕ) (l : Layer) (p : ℕ) → refused n l p ≡ bare t → refused n l p ≡ t
