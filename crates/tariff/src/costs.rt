@@ -39,6 +39,7 @@ impl Sheet {
     fn service_costs(&self, heads: &Heads) -> [i64; 5]
         ensures { result ≡ service_costs self.now.division self.now.management heads.now.amounts }
     {
+        // Four calls and not a loop: settlement, the fifth, has no management part.
         let parts = Parts::cut(self, heads);
         [
             parts.service(heads, 0),
