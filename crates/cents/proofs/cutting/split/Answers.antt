@@ -5,6 +5,9 @@ use Rattle.cents.specs.Cutting.{taken, cut}
 use Rattle.cents.proofs.Parts.{parts_more, part_inside}
 use Rattle.cents.proofs.cutting.split.Goals as goal
 
+pub overflow_add-run : goal.overflow_add-run
+overflow_add-run c = omega (arith, sum_by_more_le (λ x. x) c.args.weights.now c.loop-i.i 0 (omega arith))
+
 pub loop-i-preserved : goal.loop-i-preserved
 loop-i-preserved c =
     let l : c.loop-i.i < length c.args.weights.now = omega arith in
