@@ -1,10 +1,10 @@
 -- What a test that gives a value or nothing tells of the test.
-use Rattle.std.proofs.Common.{◌≡◌, ℕ, Bool, true, false, cond, Some, None, refl, arith}
+use Rattle.std.proofs.Common.{◌≡◌, Bool, true, false, cond, Some, None, sym, ◌∙◌}
+use Rattle.std.proofs.lemmas.Bool.{cond-true, false_from_ne_true}
+use Rattle.std.proofs.lemmas.Option.{none-some, cond_some as cond_some_turned}
 
 pub cond_none : {X : Type 0} (b : Bool) (x : X) → None ≡ cond b (Some x) None → b ≡ false
-cond_none true x e = let z : ◌≡◌ {A = ℕ} 0 1 = cc in absurd (omega arith)
-cond_none false x e = refl
+cond_none b x e = false_from_ne_true b (λ t. none-some x (e ∙ cond-true b (Some x) None t))
 
 pub cond_some : {X : Type 0} (b : Bool) (x y : X) → Some y ≡ cond b (Some x) None → (b ≡ true) × (y ≡ x)
-cond_some true x y e = (refl, cc)
-cond_some false x y e = let z : ◌≡◌ {A = ℕ} 0 1 = cc in absurd (omega arith)
+cond_some b x y e = let p = cond_some_turned b x y (sym e) in (p.0, sym p.1)

@@ -1,6 +1,6 @@
 -- The parts of a cut lie inside the amount and add up to it.
 use Rattle.std.proofs.Common.{◌≡◌, ℕ, zero, suc, ◌+◌, ◌-◌, ◌*◌, ◌^◌, ◌<◌, ◌≤◌, List, [], ◌∷◌, ◌++◌, length, get_or, take, drop, set, ℤ, pos, ◌+ℤ◌, ◌-ℤ◌, ◌*ℤ◌, sum, sym, refl, ap, ◌∙◌, subst, mul-le-mul, arith, w64, SFits}
-use Rattle.std.proofs.lemmas.List.{take_more_set, drop_more, append_assoc, drop_all, take_all, append-nil}
+use Rattle.std.proofs.lemmas.List.{take_more_set, drop_more, append_assoc}
 use borrow.Author.Differences.{ints, up, down}
 use mir.Syntax.{w128}
 use Rattle.std.proofs.lemmas.List.Sums.{sum_by-cons}
@@ -70,13 +70,6 @@ pub parts_more : (a : ℤ) (T i run w : ℕ) (p : ℤ) (ws : List ℕ) (ps all :
 parts_more a T i run w p ws ps all lw lp f e h =
     let d : parts_from a T run (drop i ws) ≡ parts_from a T run (w ∷ drop (i + 1) ws) = rw f (ap (parts_from a T run) (drop_more ws i 0 lw)) in
     rw (take_more_set ps i p lp, append_assoc, e) (ap (λ (xs : List ℤ). take i ps ++ xs) (sym d) ∙ h)
-
--- at the end the parts are the cut
-pub parts_end : (a : ℤ) (T i run : ℕ) (ws : List ℕ) (ps all : List ℤ) → length ws ≤ i → length ps ≤ i → take i ps ++ parts_from a T run (drop i ws) ≡ all → ps ≡ all
-parts_end a T i run ws ps all lw lp h =
-    let d = ap (parts_from a T run) (drop_all i ws lw) in
-    let t = take_all i ps lp in
-    rw (t, d, append-nil) at h
 
 -- every part of a cut lies between 0 and the amount
 pub parts_inside : (a : ℤ) (T x : ℕ) (ws : List ℕ) (k : ℕ) → x + sum ws ≤ T → Inside a (get_or (parts_from a T x ws) k (pos 0))

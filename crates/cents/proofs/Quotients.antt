@@ -1,7 +1,7 @@
 -- A quotient rounded down, by its remainder.
-use Rattle.std.proofs.Common.{◌≡◌, ℕ, zero, suc, ◌+◌, ◌-◌, ◌*◌, ◌%◌, ◌<◌, ◌≤◌, ℤ, pos, negsuc, ◌+ℤ◌, ◌*ℤ◌, sym, refl, ap, ◌∙◌, ⊎_elim, mul-le-mul_left, arith}
+use Rattle.std.proofs.Common.{◌≡◌, ℕ, zero, suc, ◌+◌, ◌-◌, ◌*◌, ◌%◌, ◌<◌, ◌≤◌, ℤ, pos, negsuc, ◌+ℤ◌, ◌*ℤ◌, sym, refl, ap, ◌∙◌, mul-le-mul_left, arith}
 use borrow.Author.Differences.{ints}
-use Rattle.std.proofs.lemmas.Bool.{cases_lt}
+use Rattle.std.proofs.Math.Nat.{lt_of_mul-lt-mul_left}
 use Rattle.std.specs.Int.{int_div_euclid}
 use Rattle.cents.specs.Rounding.{round_down, round_nearest, Largest, Inside}
 use Rattle.cents.proofs.Products.{mul_plus}
@@ -16,7 +16,7 @@ down_left (pos a) (suc b) h = (a % suc b, omega arith, omega (arith, ints))
 down_left (negsuc a) (suc b) h = (b - a % suc b, omega arith, omega (arith, ints))
 
 below : (a d T : ℕ) → T * d < T * a + T → d ≤ a
-below a d T h = ⊎_elim (λ (l : a < d). absurd (omega (arith, mul-le-mul_left T l))) (λ (l : d ≤ a). l) (cases_lt a d)
+below a d T h = let l : d < a + 1 = lt_of_mul-lt-mul_left T (omega (arith, h)) in omega arith
 
 -- what takes u of T of an amount, to within T, lies between 0 and the amount
 pub inside : (a d : ℤ) (T u r s : ℕ) → u ≤ T → r < T → s < T → (pos T *ℤ d) +ℤ pos s ≡ (a *ℤ pos u) +ℤ pos r → Inside a d

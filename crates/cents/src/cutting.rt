@@ -1,5 +1,5 @@
 //! Cutting an amount over weights, so that the parts add up to it again.
-ghost use Rattle.std.specs.Prelude.{◌≡◌, ◌<◌, ◌≤◌, min, ◌-ℤ◌, sum};
+ghost use Rattle.std.specs.Prelude.{◌≡◌, ◌<◌, ◌≤◌, min, length, sum};
 ghost use Rattle.cents.specs.Cutting.{cut, taken, sum_z};
 ghost use Rattle.cents.specs.Rounding.{Inside};
 
@@ -13,16 +13,23 @@ pub fn taken(amount: i64, run: u64, whole: u64) -> i64
     ensures inside { Inside amount result }
 {
     let run = run.min(whole);
-    down((amount as i128) * (run as i128), whole) as i64
+    down(i128::from(amount) * i128::from(run), whole) as i64
 }
 
-/// What the weights up to one running sum take, less what those up to an earlier one take.
-fn part(amount: i64, before: u64, upto: u64, whole: u64) -> i64
-    requires rising { before ≤ upto }
-    requires within { upto ≤ whole }
-    ensures { result ≡ taken amount whole upto -ℤ taken amount whole before }
+/// Writes what each weight takes of the amount, after those before it.
+pub fn split(amount: i64, whole: u64, weights: &[u32], out: &mut [i64])
+    requires whole { whole ≡ sum weights.now }
+    requires long { length weights.now ≡ length out.old }
+    ensures { out.new ≡ cut amount weights.now }
 {
-    taken(amount, upto, whole) - taken(amount, before, whole)
+    let mut run = 0u64;
+    let mut before = 0i64;
+    for (i, weight) in weights.iter().enumerate() {
+        run += u64::from(*weight);
+        let upto = taken(amount, run, whole);
+        out[i] = upto - before;
+        before = upto;
+    }
 }
 
 /// The parts of an amount by weights: each is what the weights up to its own take, less what those
@@ -32,13 +39,7 @@ pub fn cut<const N: usize>(amount: i64, weights: [u32; N]) -> [i64; N]
     ensures parts { result ≡ cut amount weights.entry }
     ensures whole { 0 < sum weights.entry → sum_z result ≡ amount }
 {
-    let whole = total(weights);
     let mut parts = [0i64; N];
-    let mut run = 0u64;
-    for i in 0..N {
-        let upto = run + u64::from(weights[i]);
-        parts[i] = part(amount, run, upto, whole);
-        run = upto;
-    }
+    split(amount, total(&weights), &weights, &mut parts);
     parts
 }

@@ -10,7 +10,7 @@ pub fn down(a: i128, b: u64) -> i128
     if b == 0 {
         return 0;
     }
-    a.div_euclid(b as i128)
+    a.div_euclid(i128::from(b))
 }
 
 /// The whole number nearest to a ÷ b, halves up; 0 where b is 0.
@@ -21,6 +21,6 @@ pub fn nearest(a: i64, b: u64) -> i64
     if b == 0 {
         return 0;
     }
-    let doubled = 2 * (a as i128) + (b as i128);
-    doubled.div_euclid(2 * (b as i128)) as i64
+    let doubled = 2 * i128::from(a) + i128::from(b);
+    doubled.div_euclid(2 * i128::from(b)) as i64
 }

@@ -15,8 +15,8 @@ use crate::checks::row_start;
 use crate::line::Line;
 use crate::rows::write_lines;
 use book::book::Book;
+use cents::weights::total;
 use refusal::{Fault, Layer, Refusal};
-use sharing::domain::total;
 use sharing::rule::Rule;
 use statement::component::kind_of;
 

@@ -1,2 +1,1 @@
-pub mod ThreeMembers
 pub mod Zeros

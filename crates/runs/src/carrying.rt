@@ -17,7 +17,7 @@ use sharing::rule::Rule;
 
 /// Puts costs on a voucher and books it.
 fn book_costs<R: Rule>(ledger: &mut Ledger<R>, costs: &Costs) -> Outcome
-    ensures carried { (f : List Line) → CarriedOut (terms_of R.shares R.step ledger.old) (book costs.now.control costs.now.amounts) (standing_of ledger.old f) (standing_of ledger.new f) (outcome_told result) }
+    ensures carried { (f : List Line) → CarriedOut (terms_of R.shares R.STEP ledger.old) (book costs.now.control costs.now.amounts) (standing_of ledger.old f) (standing_of ledger.new f) (outcome_told result) }
     ensures same { (ledger.new.rule ≡ ledger.old.rule) × (ledger.new.sheet ≡ ledger.old.sheet) }
 {
     let voucher = match cost_voucher(costs.control, costs.amounts) {
@@ -41,8 +41,8 @@ fn bill_book<R: Rule, B: Book>(
     cells: &mut [i64],
 ) -> Outcome
     requires { length cells.old ≡ 13 * ledger.old.accounts.members }
-    ensures carried { CarriedOut (terms_of R.shares R.step ledger.old) (bill (reading (B.month book.now) (B.count book.now) (B.held book.now))) (standing_of ledger.old file.old) (standing_of ledger.new file.new) (outcome_told result) }
-    ensures cells { cells.new ≡ after (carried (terms_of R.shares R.step ledger.old) (standing_of ledger.old file.old) (bill (reading (B.month book.now) (B.count book.now) (B.held book.now)))) (λ c. c.left.cells) cells.old }
+    ensures carried { CarriedOut (terms_of R.shares R.STEP ledger.old) (bill (reading (B.month book.now) (B.count book.now) (B.held book.now))) (standing_of ledger.old file.old) (standing_of ledger.new file.new) (outcome_told result) }
+    ensures cells { cells.new ≡ after (carried (terms_of R.shares R.STEP ledger.old) (standing_of ledger.old file.old) (bill (reading (B.month book.now) (B.count book.now) (B.held book.now)))) (λ c. c.left.cells) cells.old }
     ensures same { (ledger.new.rule ≡ ledger.old.rule) × (ledger.new.sheet ≡ ledger.old.sheet) }
 {
     match ledger.bill(book, file, cells) {
@@ -60,8 +60,8 @@ fn resettle_book<R: Rule, B: Book>(
     cells: &mut [i64],
 ) -> Outcome
     requires { length cells.old ≡ ledger.old.accounts.members }
-    ensures carried { CarriedOut (terms_of R.shares R.step ledger.old) (resettle component (reading (B.month book.now) (B.count book.now) (B.held book.now))) (standing_of ledger.old file.old) (standing_of ledger.new file.new) (outcome_told result) }
-    ensures cells { cells.new ≡ after (carried (terms_of R.shares R.step ledger.old) (standing_of ledger.old file.old) (resettle component (reading (B.month book.now) (B.count book.now) (B.held book.now)))) (λ c. c.left.cells) cells.old }
+    ensures carried { CarriedOut (terms_of R.shares R.STEP ledger.old) (resettle component (reading (B.month book.now) (B.count book.now) (B.held book.now))) (standing_of ledger.old file.old) (standing_of ledger.new file.new) (outcome_told result) }
+    ensures cells { cells.new ≡ after (carried (terms_of R.shares R.STEP ledger.old) (standing_of ledger.old file.old) (resettle component (reading (B.month book.now) (B.count book.now) (B.held book.now)))) (λ c. c.left.cells) cells.old }
     ensures same { (ledger.new.rule ≡ ledger.old.rule) × (ledger.new.sheet ≡ ledger.old.sheet) }
 {
     match ledger.resettle(component, book, file, cells) {
@@ -78,8 +78,8 @@ pub(crate) fn carry_out<R: Rule, B: Book>(
     cells: &mut [i64],
 ) -> Outcome
     requires { length cells.old ≡ 13 * ledger.old.accounts.members }
-    ensures carried { CarriedOut (terms_of R.shares R.step ledger.old) (deed_of B.month B.count B.held order.now) (standing_of ledger.old file.old) (standing_of ledger.new file.new) (outcome_told result) }
-    ensures cells { cells.new ≡ cells_after (terms_of R.shares R.step ledger.old) (standing_of ledger.old file.old) (deed_of B.month B.count B.held order.now) cells.old }
+    ensures carried { CarriedOut (terms_of R.shares R.STEP ledger.old) (deed_of B.month B.count B.held order.now) (standing_of ledger.old file.old) (standing_of ledger.new file.new) (outcome_told result) }
+    ensures cells { cells.new ≡ cells_after (terms_of R.shares R.STEP ledger.old) (standing_of ledger.old file.old) (deed_of B.month B.count B.held order.now) cells.old }
     ensures same { (ledger.new.rule ≡ ledger.old.rule) × (ledger.new.sheet ≡ ledger.old.sheet) }
 {
     match order {

@@ -5,7 +5,8 @@ use Rattle.std.proofs.lemmas.List.Sums.{sum_by-cons}
 use Rattle.cents.specs.Cutting.{sum_z}
 use Rattle.cents.proofs.Products.{mul_plus, mul_minus}
 use Rattle.sharing.specs.Tolerance.{Near, NearTogether, slack, cent}
-use Rattle.cents.proofs.Magnitudes.{abs_times, times_abs, factor_out}
+use Rattle.std.proofs.lemmas.Int.{unsigned_abs-mul}
+use Rattle.std.proofs.Math.Nat.{le_of_mul-le-mul_left}
 
 near_none : (k d : ℕ) (P : ℤ) (T : ℕ) → NearTogether k d P T 0 (pos 0)
 near_none k d P T = omega (arith, ints)
@@ -36,11 +37,11 @@ near_front d P T (u ∷ us) (s ∷ ss) e h (suc k) =
 -- what k members bear is at most the largest pool, half a cent for each of the most units, and one cent for each member
 pub near_small : (k d : ℕ) (P : ℤ) (T U : ℕ) (S : ℤ) → d ≤ 100 → nat_abs P ≤ 4000000000 → 0 < T → T ≤ 2000000000 → U ≤ T → NearTogether k d P T U S → nat_abs S ≤ 5000000000 + k
 near_small k d P T U S hd hp h0 ht hu h =
-    let a = abs_times T S in
-    let b = times_abs P U in
+    let a = unsigned_abs-mul (pos T) S in
+    let b = unsigned_abs-mul P (pos U) in
     let c = mul-le-mul_left (nat_abs P) hu in
     let w : T * (cent * nat_abs S) ≤ T * (cent * nat_abs P + d * U + cent * k) = omega (arith, ints) in
-    let l = factor_out T (cent * nat_abs S) (cent * nat_abs P + d * U + cent * k) h0 w in
+    let l = le_of_mul-le-mul_left w h0 in
     let m : d * U ≤ 100 * 2000000000 = mul-le-mul {n₂ = 100} {m₂ = 2000000000} hd (omega arith) in
     omega arith
 
@@ -48,7 +49,7 @@ near_small k d P T U S hd hp h0 ht hu h =
 pub near_whole : (k d : ℕ) (P : ℤ) (T : ℕ) (S : ℤ) → 0 < T → NearTogether k d P T T S → nat_abs (P -ℤ S) ≤ slack k d T
 near_whole k d P T S h0 h =
     let m = mul_minus (pos T) P S in
-    let a = abs_times T (P -ℤ S) in
+    let a = unsigned_abs-mul (pos T) (P -ℤ S) in
     let w : T * (cent * nat_abs (P -ℤ S)) ≤ T * (d * T + cent * k) = omega (arith, ints) in
-    let l = factor_out T (cent * nat_abs (P -ℤ S)) (d * T + cent * k) h0 w in
+    let l = le_of_mul-le-mul_left w h0 in
     omega arith

@@ -9,7 +9,8 @@ use Rattle.sharing.specs.Domain.{in_domain, shareable}
 use Rattle.sharing.specs.Tolerance.{Near}
 use Rattle.sharing.specs.Posted.{posted_rate, posted_share}
 use Rattle.sharing.specs.Members.{map_at}
-use Rattle.cents.proofs.Magnitudes.{abs_times, inside_abs}
+use Rattle.cents.proofs.Magnitudes.{inside_abs}
+use Rattle.std.proofs.lemmas.Int.{unsigned_abs-mul}
 use Rattle.sharing.specs.Domains.{in_domain_lem, unit_le}
 
 pub nearest_none : (b : ℕ) (z : ℤ) → 0 < b → round_nearest (z *ℤ pos 0) b ≡ pos 0
@@ -32,7 +33,7 @@ rate_in : (p : ℤ) (T : ℕ) → in_domain p T ≡ true → unsigned_abs (round
 rate_in p T e =
     let d = in_domain_lem p T e in
     let i = inside_abs (pos 100 *ℤ p) (round_nearest (pos 100 *ℤ p) T) (nearest_inside (pos 100 *ℤ p) T d.1) in
-    omega (arith, d.0, abs_times 100 p, i)
+    omega (arith, d.0, unsigned_abs-mul (pos 100) p, i)
 
 -- a rate is at most a hundred times the largest pool
 pub rate_within : (p : ℤ) (T : ℕ) → unsigned_abs (posted_rate p T) ≤ 400000000000

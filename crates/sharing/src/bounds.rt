@@ -9,10 +9,10 @@ use crate::rule::Rule;
 /// The step of a rule, and how far its shares may lie from the pool: each of them, those of the
 /// first members, and all together.
 pub fn bounds<R: Rule>() -> u32
-    ensures value { result ≡ R.step }
+    ensures value { result ≡ R.STEP }
     ensures each { (x : R) (p : ℤ) (us : List ℕ) (m : ℕ) → unsigned_abs (slice_index_or (R.shares x p us) m (pos 0)) ≤ 5000000001 }
     ensures first { (x : R) (p : ℤ) (us : List ℕ) (k : ℕ) → unsigned_abs (sum_z (take k (R.shares x p us))) ≤ 5000000000 + k }
-    ensures together { (x : R) (p : ℤ) (us : List ℕ) → shareable p us ≡ true → unsigned_abs (p -ℤ sum_z (R.shares x p us)) ≤ slack (length us) R.step (sum us) }
+    ensures together { (x : R) (p : ℤ) (us : List ℕ) → shareable p us ≡ true → unsigned_abs (p -ℤ sum_z (R.shares x p us)) ≤ slack (length us) R.STEP (sum us) }
 {
-    R::stated()
+    R::STEP
 }

@@ -1,23 +1,15 @@
 //! What can be shared.
-ghost use Rattle.std.specs.Prelude.{◌≡◌, ◌-◌, ◌^◌, min, length, replicate, pos, sum};
-ghost use Rattle.sharing.specs.Domain.{in_domain};
+ghost use Rattle.std.specs.Prelude.{◌≡◌, ◌&&◌, ◌==◌, if◌then◌else◌, length, Some, None, sum};
+ghost use Rattle.sharing.specs.Domain.{in_domain, shareable};
+ghost use Rattle.sharing.specs.Shares.{laid, shared};
+
+use cents::weights::total;
 
 /// The largest pool, in cents, either way.
 const MOST_CENTS: u64 = 4_000_000_000;
 
 /// The most units of all members together.
 const MOST_UNITS: u64 = 2_000_000_000;
-
-/// The sum of the units, which stops growing at the largest 64-bit number.
-pub fn total(units: &[u32]) -> u64
-    ensures { result ≡ min (sum units.now) (2 ^ 64 - 1) }
-{
-    let mut total = 0u64;
-    for unit in units {
-        total = total.saturating_add(u64::from(*unit));
-    }
-    total
-}
 
 /// Whether a pool can be shared over so many units.
 pub fn in_domain(pool: i64, total: u64) -> bool
@@ -26,9 +18,19 @@ pub fn in_domain(pool: i64, total: u64) -> bool
     pool.unsigned_abs() <= MOST_CENTS && 1 <= total && total <= MOST_UNITS
 }
 
-/// Writes 0 into each place.
-pub fn clear(out: &mut [i64])
-    ensures { out.new ≡ replicate (length out.old) (pos 0) }
+/// The sum of the units, where shares are to be written over it. Where there is not one place for
+/// each member, nothing is; where nothing can be shared, each place gets 0.
+pub fn to_share(pool: i64, units: &[u32], out: &mut [i64]) -> Option<u64>
+    ensures over { result ≡ (if length units.now == length out.old && shareable pool units.now then Some (sum units.now) else None) }
+    ensures rest { out.new ≡ laid units.now out.old (shared pool units.now out.old) }
 {
-    out.fill(0);
+    if units.len() != out.len() {
+        return None;
+    }
+    let total = total(units);
+    if !in_domain(pool, total) {
+        out.fill(0);
+        return None;
+    }
+    Some(total)
 }

@@ -3,6 +3,7 @@
 
 pub mod bounds;
 pub mod domain;
+pub mod laying;
 pub mod posted;
 pub mod ratio;
 pub mod rule;

@@ -1,5 +1,5 @@
 //! The rule of a posted rate.
-ghost use Rattle.std.specs.Prelude.{◌≡◌, ℕ, ◌*◌, ◌≤◌, map, length, sum, slice_index, unsigned_abs};
+ghost use Rattle.std.specs.Prelude.{◌≡◌, ◌*◌, ◌≤◌, sum, unsigned_abs};
 ghost use Rattle.sharing.specs.Posted.{posted_rate, posted_share, posted};
 ghost use Rattle.std.proofs.lemmas.List.{length-map};
 ghost use Rattle.sharing.specs.Shared.{shared_long, shared_idle, shared_fair, shared_unused};
@@ -7,7 +7,8 @@ ghost use Rattle.std.proofs.Common.{rules, arith};
 ghost use Rattle.sharing.specs.PostedShares.{each_near, nearest_none};
 ghost use Rattle.sharing.specs.Members.{map_unused};
 
-use crate::domain::{clear, in_domain, total};
+use crate::domain::{in_domain, to_share};
+use crate::laying::lay;
 use crate::rule::Rule;
 use cents::rounding::nearest;
 
@@ -22,22 +23,12 @@ pub fn posted_rate(pool: i64, total: u64) -> i64
 }
 
 /// What a member's units bear at a rate, in cents.
+// a year's charge has this form too: one function for both would be public, with a `requires`, and no plainer
 fn posted_share(rate: i64, units: u32) -> i64
     requires { unsigned_abs rate * units ≤ 1000000000000 }
     ensures { result ≡ posted_share rate units }
 {
     nearest(rate * i64::from(units), 100)
-}
-
-/// Writes what each member's units bear at a rate.
-fn post(rate: i64, units: &[u32], out: &mut [i64])
-    requires long { length units.now ≡ length out.old }
-    requires small { (m : ℕ) → unsigned_abs rate * slice_index units.now m ≤ 1000000000000 }
-    ensures { out.new ≡ map (posted_share rate) units.now }
-{
-    for i in 0..units.len() {
-        out[i] = posted_share(rate, units[i]);
-    }
 }
 
 /// Each member bears its units at one rate, which is posted to the nearest hundredth of a cent.
@@ -47,7 +38,7 @@ pub struct Posted;
 impl Rule for Posted {
     const STEP: u32 = 1;
 
-    ghost step = { 1 };
+    ghost STEP = { 1 };
 
     ghost shares = { λ x p us. posted p us };
 
@@ -61,19 +52,10 @@ impl Rule for Posted {
 
     ghost unused = { λ x p us m e. shared_unused p us _ m (map_unused _ us m (nearest_none 100 (posted_rate p (sum us)) (omega arith)) e) };
 
-    fn stated() -> u32 {
-        Self::STEP
-    }
-
     fn share(&self, pool: i64, units: &[u32], out: &mut [i64]) {
-        if units.len() != out.len() {
-            return;
+        if let Some(total) = to_share(pool, units, out) {
+            let rate = posted_rate(pool, total);
+            lay(units, out, |member| posted_share(rate, member));
         }
-        let total = total(units);
-        if !in_domain(pool, total) {
-            clear(out);
-            return;
-        }
-        post(posted_rate(pool, total), units, out);
     }
 }

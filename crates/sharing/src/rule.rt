@@ -10,20 +10,16 @@ pub trait Rule {
     /// posts none.
     const STEP: u32;
 
-    ghost step: { ℕ };
+    ghost STEP: { ℕ };
 
     // the shares, in cents, of a pool and the members' units
     ghost shares: { Self → ℤ → List ℕ → List ℤ };
-
-    /// The rule's step.
-    fn stated() -> u32
-        ensures { result ≡ step };
 
     /// Tells the shares of all members. Where there is not one place for each, nothing is written.
     fn share(&self, pool: i64, units: &[u32], out: &mut [i64])
         ensures { out.new ≡ laid units.now out.old (shares self.now pool units.now) };
 
-    ghost stepped: { step ≤ 100 };
+    ghost stepped: { STEP ≤ 100 };
 
     // each member has a share
     ghost long: { (x : Self) (p : ℤ) (us : List ℕ) → length (shares x p us) ≡ length us };
@@ -32,7 +28,7 @@ pub trait Rule {
     ghost idle: { (x : Self) (p : ℤ) (us : List ℕ) → shareable p us ≡ false → shares x p us ≡ no_shares us };
 
     // each share lies near its exact part of the pool
-    ghost fair: { (x : Self) (p : ℤ) (us : List ℕ) → shareable p us ≡ true → (m : ℕ) → Near step p (sum us) (slice_index us m) (slice_index_or (shares x p us) m (pos 0)) };
+    ghost fair: { (x : Self) (p : ℤ) (us : List ℕ) → shareable p us ≡ true → (m : ℕ) → Near STEP p (sum us) (slice_index us m) (slice_index_or (shares x p us) m (pos 0)) };
 
     // who used nothing bears nothing
     ghost unused: { (x : Self) (p : ℤ) (us : List ℕ) (m : ℕ) → slice_index us m ≡ 0 → slice_index_or (shares x p us) m (pos 0) ≡ pos 0 };

@@ -4,8 +4,8 @@ ghost use Rattle.statement.specs.Columns.{kind_of, column};
 ghost use Rattle.statement.specs.Charges.{component_charge};
 
 use cents::totals::sum_of;
+use cents::weights::total;
 use charges_text::charges::ComponentCharge;
-use sharing::domain::total;
 use sharing::rule::Rule;
 
 /// The place of the kind that the component at a place is charged by.

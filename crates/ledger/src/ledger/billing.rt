@@ -29,7 +29,7 @@ impl<R: Rule> Ledger<R> {
         ensures standing { standing_of self.new file.new ≡ after (bill_rule (R.shares self.old.rule) (cut_by self.old.sheet) (standing_of self.old file.old) (reading (B.month book.now) (B.count book.now) (B.held book.now)) (length statement.old)) (λ left. left.standing) (standing_of self.old file.old) }
         ensures cells { statement.new ≡ after (bill_rule (R.shares self.old.rule) (cut_by self.old.sheet) (standing_of self.old file.old) (reading (B.month book.now) (B.count book.now) (B.held book.now)) (length statement.old)) (λ left. left.cells) statement.old }
         ensures same { (self.new.rule ≡ self.old.rule) × (self.new.sheet ≡ self.old.sheet) }
-        ensures law { (h : History) → Kept (terms_of R.shares R.step self.old) h (standing_of self.old file.old) → MatchResult result (λ _. Kept (terms_of R.shares R.step self.old) (billed (reading (B.month book.now) (B.count book.now) (B.held book.now)) statement.new ∷ h) (standing_of self.new file.new)) (λ _. Kept (terms_of R.shares R.step self.old) h (standing_of self.new file.new)) }
+        ensures law { (h : History) → Kept (terms_of R.shares R.STEP self.old) h (standing_of self.old file.old) → MatchResult result (λ _. Kept (terms_of R.shares R.STEP self.old) (billed (reading (B.month book.now) (B.count book.now) (B.held book.now)) statement.new ∷ h) (standing_of self.new file.new)) (λ _. Kept (terms_of R.shares R.STEP self.old) h (standing_of self.new file.new)) }
     {
         let costs = self.sheet.costs(&self.heads);
         let charges = charge_book(&self.rule, &self.accounts, costs, book, file, statement)?;

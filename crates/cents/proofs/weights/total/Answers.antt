@@ -1,13 +1,16 @@
-use Rattle.std.proofs.Common.{◌<◌, length, sum, ap, ◌∙◌, arith, rules}
-use Rattle.std.proofs.lemmas.List.{take_all}
-use Rattle.std.proofs.lemmas.List.Sums.{sum_by_more}
+use Rattle.std.proofs.Common.{◌≡◌, ℕ, ◌+◌, ◌-◌, ◌^◌, ◌≤◌, min, List, [], ◌∷◌, sum, arith, rules}
+use Rattle.std.specs.List.{fold}
+use Rattle.std.proofs.lemmas.List.Sums.{sum_by-cons}
 use Rattle.cents.proofs.weights.total.Goals as goal
 
-pub loop-weight-preserved : goal.loop-weight-preserved
-loop-weight-preserved g c =
-    let l : c.loop-weight.weight-index < length c.args.weights = omega arith in
-    let m = sum_by_more (λ x. x) c.args.weights c.loop-weight.weight-index 0 l in
-    (omega (arith, m, c.loop-weight.invariant.0), search rules)
+-- adding that stops growing at a number gives the sum or that number
+stops : (most a : ℕ) (xs : List ℕ) → a ≤ most → fold (λ s x. min (s + x) most) a xs ≡ min (a + sum xs) most
+stops most a [] h = omega arith
+stops most a (x ∷ xs) h =
+    let i = stops most (min (a + x) most) xs (omega arith) in
+    omega (arith, i, sum_by-cons (λ n. n) x xs)
 
 pub returns : goal.returns
-returns g c = c.loop-weight.invariant.0 ∙ ap sum (take_all c.loop-weight.weight-index c.args.weights (omega arith))
+returns c =
+    let e : c.fold.result ≡ fold (λ s x. min (s + x) (2 ^ 64 - 1)) 0 c.args.weights.now = search rules in
+    omega (arith, e, stops (2 ^ 64 - 1) 0 c.args.weights.now (omega arith))

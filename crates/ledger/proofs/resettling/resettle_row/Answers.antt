@@ -33,5 +33,5 @@ find_changes-requires g c =
       balance = omega (arith, ap nat_abs z, c.requires.balance);
       lines = omega (arith, f, c.requires.fresh, c.requires.lines);
       out = omega (arith, f, c.requires.fresh, c.requires.changes);
-      shares = λ m. subst (λ (ss : List ℤ). nat_abs (get_or ss m (pos 0)) ≤ 5000000001) (sym q) (share_small g.R.Rule.step _ us _ g.met.R.Rule.stepped (g.met.R.Rule.idle x _ us) (g.met.R.Rule.fair x _ us) m);
+      shares = λ m. subst (λ (ss : List ℤ). nat_abs (get_or ss m (pos 0)) ≤ 5000000001) (sym q) (share_small g.R.Rule.STEP _ us _ g.met.R.Rule.stepped (g.met.R.Rule.idle x _ us) (g.met.R.Rule.fair x _ us) m);
     }

@@ -15,7 +15,7 @@ pub returns-in-Err : goal.returns-in-Err
 returns-in-Err g c =
     let l = c.args.ledger.now in
     let costs = c.args.costs.now in
-    let t = terms_of g.R.Rule.shares g.R.Rule.step l in
+    let t = terms_of g.R.Rule.shares g.R.Rule.STEP l in
     let z = to_z-of_z w64 costs.control (search rules) in
     let f = c.in-Err.fault in
     let e = c.in-Err.ensures.told ∙ ap (λ (x : ℤ). cost_rule x costs.amounts) z in
@@ -25,7 +25,7 @@ pub returns-in-Ok-book : goal.returns-in-Ok-book
 returns-in-Ok-book g c =
     let l = c.args.ledger.now in
     let costs = c.args.costs.now in
-    let t = terms_of g.R.Rule.shares g.R.Rule.step l in
+    let t = terms_of g.R.Rule.shares g.R.Rule.STEP l in
     let z = to_z-of_z w64 costs.control (search rules) in
     let e = c.in-Ok.ensures.told ∙ ap (λ (x : ℤ). cost_rule x costs.amounts) z in
     let heads = c.book.new.self.heads.amounts in
@@ -43,7 +43,7 @@ pub returns-in-Err-book : goal.returns-in-Err-book
 returns-in-Err-book g c =
     let l = c.args.ledger.now in
     let costs = c.args.costs.now in
-    let t = terms_of g.R.Rule.shares g.R.Rule.step l in
+    let t = terms_of g.R.Rule.shares g.R.Rule.STEP l in
     let z = to_z-of_z w64 costs.control (search rules) in
     let e = c.in-Ok.ensures.told ∙ ap (λ (x : ℤ). cost_rule x costs.amounts) z in
     let heads = c.book.new.self.heads.amounts in

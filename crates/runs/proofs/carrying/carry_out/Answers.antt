@@ -13,14 +13,14 @@ returns-in-Book g c =
     let p = c.book_costs.ensures in
     rw c.in-Book.is (record {
       carried = p.carried c.args.file.now;
-      cells = none_written (terms_of g.R.Rule.shares g.R.Rule.step l) (standing_of l c.args.file.now) costs.control costs.amounts c.args.cells.now;
+      cells = none_written (terms_of g.R.Rule.shares g.R.Rule.STEP l) (standing_of l c.args.file.now) costs.control costs.amounts c.args.cells.now;
       same = p.same;
     })
 
 pub returns-in-Bill : goal.returns-in-Bill
 returns-in-Bill g c =
     let l = c.args.ledger.now in
-    let t = terms_of g.R.Rule.shares g.R.Rule.step l in
+    let t = terms_of g.R.Rule.shares g.R.Rule.STEP l in
     let book = c.in-Bill.book in
     let b = reading (g.B.Book.month book) (g.B.Book.count book) (g.B.Book.held book) in
     let p = c.bill_book.ensures in
@@ -33,7 +33,7 @@ returns-in-Bill g c =
 pub returns-in-Resettle : goal.returns-in-Resettle
 returns-in-Resettle g c =
     let l = c.args.ledger.now in
-    let t = terms_of g.R.Rule.shares g.R.Rule.step l in
+    let t = terms_of g.R.Rule.shares g.R.Rule.STEP l in
     let book = c.in-Resettle.book in
     let b = reading (g.B.Book.month book) (g.B.Book.count book) (g.B.Book.held book) in
     let p = c.resettle_book.ensures in

@@ -10,7 +10,7 @@ returns-in-Ok g c =
     let book = c.args.book.now in
     let b = reading (g.B.Book.month book) (g.B.Book.count book) (g.B.Book.held book) in
     let p = c.in-Ok.ensures in
-    let q = resettle_called (terms_of g.R.Rule.shares g.R.Rule.step l) (standing_of l c.args.file.now) (standing_of c.resettle.new.self c.resettle.new.file) b c.args.component c.args.cells.now c.resettle.new.statement (Ok tt) c.requires p.told p.standing p.cells p.law in
+    let q = resettle_called (terms_of g.R.Rule.shares g.R.Rule.STEP l) (standing_of l c.args.file.now) (standing_of c.resettle.new.self c.resettle.new.file) b c.args.component c.args.cells.now c.resettle.new.statement (Ok tt) c.requires p.told p.standing p.cells p.law in
     record { carried = q.0; cells = q.1; same = p.same }
 
 pub returns-in-Err : goal.returns-in-Err
@@ -19,5 +19,5 @@ returns-in-Err g c =
     let book = c.args.book.now in
     let b = reading (g.B.Book.month book) (g.B.Book.count book) (g.B.Book.held book) in
     let p = c.in-Err.ensures in
-    let q = resettle_called (terms_of g.R.Rule.shares g.R.Rule.step l) (standing_of l c.args.file.now) (standing_of c.resettle.new.self c.resettle.new.file) b c.args.component c.args.cells.now c.resettle.new.statement (Err c.in-Err.fault) c.requires p.told p.standing p.cells p.law in
+    let q = resettle_called (terms_of g.R.Rule.shares g.R.Rule.STEP l) (standing_of l c.args.file.now) (standing_of c.resettle.new.self c.resettle.new.file) b c.args.component c.args.cells.now c.resettle.new.statement (Err c.in-Err.fault) c.requires p.told p.standing p.cells p.law in
     record { carried = q.0; cells = q.1; same = p.same }

@@ -20,13 +20,13 @@ returns g c =
     let orders = length c.args.orders.now in
     let outcomes = length c.args.outcomes.now in
     let cells = length c.args.statements.now in
-    let t : terms_of g.R.Rule.shares g.R.Rule.step new ≡ terms (g.R.Rule.shares c.args.rule) g.R.Rule.step (cut_by c.args.sheet) members first = rw (o.0, o.1, o.3) refl in
+    let t : terms_of g.R.Rule.shares g.R.Rule.STEP new ≡ terms (g.R.Rule.shares c.args.rule) g.R.Rule.STEP (cut_by c.args.sheet) members first = rw (o.0, o.1, o.3) refl in
     let s : standing_of new file ≡ standing no_heads (opened members first) file = rw (o.2, o.3) refl in
     let fits = and_from (eqb outcomes orders) (eqb cells (orders * (13 * members))) (eq-eqb outcomes orders c.if-outcomes-orders.false) (sym c.if-not-cells_fit.ensures) in
     record {
       told = p.told ∙ sym (cond-true (eqb outcomes orders && eqb cells (orders * (13 * members))) _ _ fits);
       ran =
-          subst (λ (u : Standing). Ran (terms (g.R.Rule.shares c.args.rule) g.R.Rule.step (cut_by c.args.sheet) members first) (record { stands = u; history = [] }) deeds c.run_orders.new.outcomes c.args.statements.now c.run_orders.new.statements last) s
+          subst (λ (u : Standing). Ran (terms (g.R.Rule.shares c.args.rule) g.R.Rule.STEP (cut_by c.args.sheet) members first) (record { stands = u; history = [] }) deeds c.run_orders.new.outcomes c.args.statements.now c.run_orders.new.statements last) s
           (subst (λ (u : Terms). Ran u (record { stands = standing_of new file; history = [] }) deeds c.run_orders.new.outcomes c.args.statements.now c.run_orders.new.statements last) t c.run_orders.ensures.ran);
       same = (c.run_orders.ensures.same.0 ∙ o.0, c.run_orders.ensures.same.1 ∙ o.1);
     }

@@ -25,12 +25,12 @@ slice_bounds-cells-end g c =
 pub loop-i-init : goal.loop-i-init
 loop-i-init g c =
     let l = c.args.ledger.now in
-    (refl, refl, running_none (terms_of g.R.Rule.shares g.R.Rule.step l) (standing_of l c.args.file.now) (map (deed_of g.B.Book.month g.B.Book.count g.B.Book.held) c.args.orders.now) c.args.outcomes.now c.args.statements.now c.requires.kept)
+    (refl, refl, running_none (terms_of g.R.Rule.shares g.R.Rule.STEP l) (standing_of l c.args.file.now) (map (deed_of g.B.Book.month g.B.Book.count g.B.Book.held) c.args.orders.now) c.args.outcomes.now c.args.statements.now c.requires.kept)
 
 pub loop-i-preserved : goal.loop-i-preserved
 loop-i-preserved g c =
     let l = c.args.ledger.now in
-    let t = terms_of g.R.Rule.shares g.R.Rule.step l in
+    let t = terms_of g.R.Rule.shares g.R.Rule.STEP l in
     let deed = deed_of g.B.Book.month g.B.Book.count g.B.Book.held in
     let orders = c.args.orders.now in
     let i = c.loop-i.i in
@@ -39,7 +39,7 @@ loop-i-preserved g c =
     let p = c.carry_out.ensures in
     let d = deed c.index-orders-i.result in
     let s = standing_of c.loop-i.ledger c.loop-i.file in
-    let same : terms_of g.R.Rule.shares g.R.Rule.step c.loop-i.ledger ≡ t = rw (inv.0, inv.1, inv.2.kept.peopled, inv.2.kept.begun) refl in
+    let same : terms_of g.R.Rule.shares g.R.Rule.STEP c.loop-i.ledger ≡ t = rw (inv.0, inv.1, inv.2.kept.peopled, inv.2.kept.begun) refl in
     let out = subst (λ (u : Terms). CarriedOut u d s (standing_of c.carry_out.new.ledger c.carry_out.new.file) (outcome_told c.carry_out.result)) same p.carried in
     let row = p.cells ∙ ap (λ (u : Terms). cells_after u s d (take (i * (13 * r) + 13 * r - i * (13 * r)) (drop (i * (13 * r)) c.loop-i.statements))) same in
     let n = length-map orders deed in (
@@ -57,6 +57,6 @@ returns g c =
     let deed = deed_of g.B.Book.month g.B.Book.count g.B.Book.held in
     let orders = c.args.orders.now in
     record {
-      ran = running_end (terms_of g.R.Rule.shares g.R.Rule.step l) (record { stands = standing_of l c.args.file.now; history = [] }) (map deed orders) c.loop-i.i c.loop-i.outcomes c.args.statements.now c.loop-i.statements (standing_of c.loop-i.ledger c.loop-i.file) (omega (arith, length-map orders deed)) c.loop-i.invariant.2;
+      ran = running_end (terms_of g.R.Rule.shares g.R.Rule.STEP l) (record { stands = standing_of l c.args.file.now; history = [] }) (map deed orders) c.loop-i.i c.loop-i.outcomes c.args.statements.now c.loop-i.statements (standing_of c.loop-i.ledger c.loop-i.file) (omega (arith, length-map orders deed)) c.loop-i.invariant.2;
       same = (c.loop-i.invariant.0, c.loop-i.invariant.1);
     }

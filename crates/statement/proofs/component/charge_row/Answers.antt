@@ -29,7 +29,7 @@ module _ (g : given.Over) (c : goal.After-sum_of g) where
   small : nat_abs (sum_z ss) ≤ 5000000200
   unfolding us ss
   small =
-      let f = front_small g.R.Rule.step c.args.pool us ss g.met.R.Rule.stepped (g.met.R.Rule.long c.args.rule.now c.args.pool us) (g.met.R.Rule.idle c.args.rule.now c.args.pool us) (g.met.R.Rule.fair c.args.rule.now c.args.pool us) 200 in
+      let f = front_small g.R.Rule.STEP c.args.pool us ss g.met.R.Rule.stepped (g.met.R.Rule.long c.args.rule.now c.args.pool us) (g.met.R.Rule.idle c.args.rule.now c.args.pool us) (g.met.R.Rule.fair c.args.rule.now c.args.pool us) 200 in
       let l = g.met.R.Rule.long c.args.rule.now c.args.pool us in
       rw (take_all 200 ss (omega (arith, l, c.requires.few))) at f
 

@@ -34,7 +34,7 @@ invariant_of-self-2 g c =
     let charges = c.in_ok-charges.charges in
     let e = c.in_ok-charges.ensures.done.0 in
     let lc : length charges ≡ 13 = ap length e ∙ components_length sh pools (rows_read b) 13 in
-    let rest = rests_small sh g.R.Rule.step g.met.R.Rule.stepped (g.met.R.Rule.long self.rule) (g.met.R.Rule.idle self.rule) (g.met.R.Rule.fair self.rule) pools (rows_read b) (omega (arith, rows_length b.held 0 b.count, (g.met.B.Book.peopled book).1)) p.pools_in p.units_in in
+    let rest = rests_small sh g.R.Rule.STEP g.met.R.Rule.stepped (g.met.R.Rule.long self.rule) (g.met.R.Rule.idle self.rule) (g.met.R.Rule.fair self.rule) pools (rows_read b) (omega (arith, rows_length b.held 0 b.count, (g.met.B.Book.peopled book).1)) p.pools_in p.units_in in
     let small : (i : ℕ) → i < 13 → nat_abs (get_or charges i no_charge).balance ≤ 4000000000 = λ i l. subst (λ (xs : List ComponentCharge). nat_abs (get_or xs i no_charge).balance ≤ 4000000000) (sym e) (rest i l) in
     rw c.close.ensures (
     record {
@@ -68,7 +68,7 @@ returns g c =
     let told = ap done ec ∙ ap (λ (t : Told Left). next t (λ left. done left.components)) done' in
     let stands = es ∙ ap (λ (t : Told Left). after t (λ left. left.standing) s) done' in
     let cells = ew ∙ ap (λ (t : Told Left). after t (λ left. left.cells) memory) done' in
-    let rule : LawfulRule (terms_of g.R.Rule.shares g.R.Rule.step self) = record { stepped = g.met.R.Rule.stepped; long = g.met.R.Rule.long self.rule; idle = g.met.R.Rule.idle self.rule; fair = g.met.R.Rule.fair self.rule } in
+    let rule : LawfulRule (terms_of g.R.Rule.shares g.R.Rule.STEP self) = record { stepped = g.met.R.Rule.stepped; long = g.met.R.Rule.long self.rule; idle = g.met.R.Rule.idle self.rule; fair = g.met.R.Rule.fair self.rule } in
     let whole = ap sum_z (sym value) ∙ c.costs-costs.ensures.whole in
     let thirteen : length (cut self.heads.amounts) ≡ 13 = ap length (sym value) ∙ search rules in
     record {
@@ -76,5 +76,5 @@ returns g c =
       standing = stands;
       cells = cells;
       same = (refl, refl);
-      law = λ h k. bill_keeps (terms_of g.R.Rule.shares g.R.Rule.step self) rule h s (standing c.zero-self.result.amounts c.close.new.self c.charge_book.new.file) b memory c.charge_book.new.statement (Ok charges) (g.met.B.Book.peopled book).0 (g.met.B.Book.peopled book).1 whole thirteen self.long self.slots told stands cells k;
+      law = λ h k. bill_keeps (terms_of g.R.Rule.shares g.R.Rule.STEP self) rule h s (standing c.zero-self.result.amounts c.close.new.self c.charge_book.new.file) b memory c.charge_book.new.statement (Ok charges) (g.met.B.Book.peopled book).0 (g.met.B.Book.peopled book).1 whole thirteen self.long self.slots told stands cells k;
     }

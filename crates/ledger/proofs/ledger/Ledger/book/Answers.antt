@@ -17,7 +17,7 @@ returns-in-Ok g c =
       amounts = tt;
       heads = heads;
       same = (refl, refl, refl);
-      law = λ h file k. booking_keeps (terms_of g.R.Rule.shares g.R.Rule.step self) h (standing_of self file) v.amounts c.book.new.self.amounts (Ok tt) (omega (arith, self.heads.long)) told heads k;
+      law = λ h file k. booking_keeps (terms_of g.R.Rule.shares g.R.Rule.STEP self) h (standing_of self file) v.amounts c.book.new.self.amounts (Ok tt) (omega (arith, self.heads.long)) told heads k;
     }
 
 pub returns-in-Err : goal.returns-in-Err
@@ -33,5 +33,5 @@ returns-in-Err g c =
       amounts = e;
       heads = heads;
       same = (refl, refl, refl);
-      law = λ h file k. booking_keeps (terms_of g.R.Rule.shares g.R.Rule.step self) h (standing_of self file) v.amounts c.book.new.self.amounts (Err (record { fault = f; amounts = c.spend-amounts.result })) (omega (arith, self.heads.long)) told heads k;
+      law = λ h file k. booking_keeps (terms_of g.R.Rule.shares g.R.Rule.STEP self) h (standing_of self file) v.amounts c.book.new.self.amounts (Err (record { fault = f; amounts = c.spend-amounts.result })) (omega (arith, self.heads.long)) told heads k;
     }

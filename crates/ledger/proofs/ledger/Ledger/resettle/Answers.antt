@@ -55,7 +55,7 @@ returns g c =
     let p = reconciled_place component r in
     let m : done tt ≡ memory_rule a.members (length file) (length memory) a.members b.count = c.in_ok-check_memory.ensures ∙ ap (memory_rule a.members (length file) (length memory) a.members) c.members.ensures in
     let o : is_on_file a b.month ≡ true = sym (c.if-not-is_on_file.ensures ∙ ap (is_on_file a) c.month.ensures) in
-    let rule : LawfulRule (terms_of g.R.Rule.shares g.R.Rule.step self) = record { stepped = g.met.R.Rule.stepped; long = g.met.R.Rule.long self.rule; idle = g.met.R.Rule.idle self.rule; fair = g.met.R.Rule.fair self.rule } in
+    let rule : LawfulRule (terms_of g.R.Rule.shares g.R.Rule.STEP self) = record { stepped = g.met.R.Rule.stepped; long = g.met.R.Rule.long self.rule; idle = g.met.R.Rule.idle self.rule; fair = g.met.R.Rule.fair self.rule } in
     let change : ℕ → Told ℤ = λ n. change_rule n (units_read b i) (shares_again sh a b i) (account_at a i).balance (lines_at a file b i) in
     let left = c.in_ok-left.left in
     let z = to_z-of_z w64 left (search rules) in
@@ -72,7 +72,7 @@ returns g c =
       standing = stands;
       cells = cells;
       same = (refl, refl);
-      law = λ h k. resettle_keeps (terms_of g.R.Rule.shares g.R.Rule.step self) rule h s new b component memory c.resettle_lines.new.statement (Ok tt) self.long told stands cells k;
+      law = λ h k. resettle_keeps (terms_of g.R.Rule.shares g.R.Rule.STEP self) rule h s new b component memory c.resettle_lines.new.statement (Ok tt) self.long told stands cells k;
     }
 
 pub returns-in_err-left : goal.returns-in_err-left
@@ -91,7 +91,7 @@ returns-in_err-left g c =
     let p = reconciled_place component r in
     let m : done tt ≡ memory_rule a.members (length file) (length memory) a.members b.count = c.in_ok-check_memory.ensures ∙ ap (memory_rule a.members (length file) (length memory) a.members) c.members.ensures in
     let o : is_on_file a b.month ≡ true = sym (c.if-not-is_on_file.ensures ∙ ap (is_on_file a) c.month.ensures) in
-    let rule : LawfulRule (terms_of g.R.Rule.shares g.R.Rule.step self) = record { stepped = g.met.R.Rule.stepped; long = g.met.R.Rule.long self.rule; idle = g.met.R.Rule.idle self.rule; fair = g.met.R.Rule.fair self.rule } in
+    let rule : LawfulRule (terms_of g.R.Rule.shares g.R.Rule.STEP self) = record { stepped = g.met.R.Rule.stepped; long = g.met.R.Rule.long self.rule; idle = g.met.R.Rule.idle self.rule; fair = g.met.R.Rule.fair self.rule } in
     let change : ℕ → Told ℤ = λ n. change_rule n (units_read b i) (shares_again sh a b i) (account_at a i).balance (lines_at a file b i) in
     let f = err_from_is_err_and c.from_residual-in_err-left.result c.from_residual-in_err-left.ensures.1 in
     let fault = c.in_err-left.field-0.0 in
@@ -107,5 +107,5 @@ returns-in_err-left g c =
       standing = stands;
       cells = cells;
       same = (refl, refl);
-      law = λ h k. resettle_keeps (terms_of g.R.Rule.shares g.R.Rule.step self) rule h s new b component memory c.resettle_lines.new.statement (Err fault) self.long told stands cells k;
+      law = λ h k. resettle_keeps (terms_of g.R.Rule.shares g.R.Rule.STEP self) rule h s new b component memory c.resettle_lines.new.statement (Err fault) self.long told stands cells k;
     })

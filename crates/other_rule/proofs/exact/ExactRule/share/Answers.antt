@@ -1,14 +1,20 @@
-use Rattle.std.proofs.Common.{◌*◌, ◌≤◌, get_or, ℤ, nat_abs, sym, subst, arith, w64, to_z, of_z}
-use Rattle.std.proofs.lemmas.Int.{to_z-of_z}
-use Rattle.sharing.specs.Domains.{domain_true}
+use Rattle.std.proofs.Common.{◌≡◌, ℕ, ◌*◌, ◌<◌, ◌≤◌, true, length, get_or, pos, nat_abs, sum, arith, rules}
+use Rattle.std.proofs.lemmas.Grind.{common_steps}
+use Rattle.sharing.specs.Domain.{shareable}
+use Rattle.sharing.specs.Members.{map_from_places}
+use Rattle.other_rule.specs.Exact.{exact_share}
 use Rattle.other_rule.specs.ExactShares.{product_small}
 use Rattle.other_rule.proofs.exact.ExactRule.share.Goals as goal
 
-pub lay-requires : goal.lay-requires
-lay-requires c =
-    let p = to_z-of_z w64 c.args.pool c.ranges.pool in
-    let d = domain_true c.args.pool (to_z w64 (of_z w64 c.args.pool)) c.total-total.result c.args.units.now p c.total-total.ensures c.if-not-in_domain.ensures in
-    record {
-      long = omega arith;
-      small = λ m. subst (λ (z : ℤ). nat_abs z * get_or c.args.units.now m 0 ≤ 8000000000000000000) (sym p) (product_small c.args.pool c.args.units.now d.1 m);
-    }
+pub lay-requires-clause-callable : goal.lay-requires-clause-callable
+lay-requires-clause-callable c m l =
+    let e : shareable c.args.pool c.args.units.now ≡ true = grind (arith, common_steps) in
+    let r : nat_abs c.args.pool * get_or c.args.units.now m 0 ≤ 8000000000000000000 = product_small c.args.pool c.args.units.now e m in
+    search rules
+
+pub returns-in-Some : goal.returns-in-Some
+returns-in-Some c =
+    let d : (m : ℕ) → m < length c.args.units.now → get_or c.lay.new.out m (pos 0) ≡ exact_share c.args.pool c.in-Some.total (get_or c.args.units.now m 0) = λ m l. let h = c.lay.ensures m l in search rules in
+    let e = map_from_places (exact_share c.args.pool c.in-Some.total) c.args.units.now c.lay.new.out (grind (arith, common_steps)) d in
+    let t : c.in-Some.total ≡ sum c.args.units.now = grind (arith, common_steps) in
+    grind (arith, common_steps)

@@ -1,17 +1,21 @@
-use Rattle.std.proofs.Common.{◌*◌, ◌≤◌, get_or, ℤ, nat_abs, sym, ap, ◌∙◌, subst, arith, w64, to_z, of_z}
-use Rattle.std.proofs.lemmas.Int.{to_z-of_z}
-use Rattle.sharing.specs.Posted.{posted_rate}
-use Rattle.sharing.specs.Domains.{domain_true}
+use Rattle.std.proofs.Common.{◌≡◌, ℕ, ◌*◌, ◌<◌, ◌≤◌, true, length, get_or, pos, nat_abs, sum, arith, rules}
+use Rattle.std.proofs.lemmas.Grind.{common_steps}
+use Rattle.sharing.specs.Domain.{shareable}
+use Rattle.sharing.specs.Posted.{posted_rate, posted_share}
 use Rattle.sharing.specs.PostedShares.{rate_fits}
+use Rattle.sharing.specs.Members.{map_from_places}
 use Rattle.sharing.proofs.posted.PostedRule.share.Goals as goal
 
-pub post-requires : goal.post-requires
-post-requires c =
-    let p = to_z-of_z w64 c.args.pool c.ranges.pool in
-    let d = domain_true c.args.pool (to_z w64 (of_z w64 c.args.pool)) c.total-total.result c.args.units.now p c.total-total.ensures c.if-not-in_domain.ensures in
-    let r = to_z-of_z w64 c.posted_rate.result (record { sfits = c.posted_rate.type_inv }) in
-    let q = r ∙ c.posted_rate.ensures ∙ ap (λ z. posted_rate z c.total-total.result) p ∙ ap (posted_rate c.args.pool) d.0 in
-    record {
-      long = omega arith;
-      small = λ m. subst (λ (z : ℤ). nat_abs z * get_or c.args.units.now m 0 ≤ 1000000000000) (sym q) (rate_fits c.args.pool c.args.units.now d.1 m);
-    }
+pub lay-requires-clause-callable : goal.lay-requires-clause-callable
+lay-requires-clause-callable c m l =
+    let e : shareable c.args.pool c.args.units.now ≡ true = grind (arith, common_steps) in
+    let q : c.posted_rate-rate.result ≡ posted_rate c.args.pool (sum c.args.units.now) = grind (arith, common_steps) in
+    let r : nat_abs c.posted_rate-rate.result * get_or c.args.units.now m 0 ≤ 1000000000000 = rw q (rate_fits c.args.pool c.args.units.now e m) in
+    search rules
+
+pub returns-in-Some : goal.returns-in-Some
+returns-in-Some c =
+    let d : (m : ℕ) → m < length c.args.units.now → get_or c.lay.new.out m (pos 0) ≡ posted_share c.posted_rate-rate.result (get_or c.args.units.now m 0) = λ m l. let h = c.lay.ensures m l in search rules in
+    let e = map_from_places (posted_share c.posted_rate-rate.result) c.args.units.now c.lay.new.out (grind (arith, common_steps)) d in
+    let q : c.posted_rate-rate.result ≡ posted_rate c.args.pool (sum c.args.units.now) = grind (arith, common_steps) in
+    grind (arith, common_steps)
