@@ -1,8 +1,8 @@
 -- One cell of a table set.
-use Rattle.std.proofs.Common.{◌≡◌, ℕ, ◌-◌, ◌<◌, ◌≤◌, true, false, cond, eqb, List, [], length, get_or, set, ℤ, pos, ◌+ℤ◌, nat_abs, sym, refl, ap, ◌∙◌, ⊎_elim, arith}
+use Rattle.std.proofs.Common.{◌≡◌, ℕ, ◌-◌, ◌<◌, ◌≤◌, cond, eqb, List, [], length, get_or, set, sym, refl, ap, ◌∙◌, ⊎_elim, arith}
 use Rattle.std.proofs.lemmas.List.{get_or-set_same, get_or-set_other, set_past}
-use Rattle.std.proofs.lemmas.Bool.{cases_eq, cases_lt, eq-eqb, ne_eqb, and_from, and_left, and_right, cond-true, cond-false, and_parts, eqb-true, cases_Bool}
-use Rattle.book.specs.Correcting.{same_pair, corrected_units}
+use Rattle.std.proofs.lemmas.Bool.{cases_eq, cases_lt, eq-eqb, ne_eqb, and_from, and_left, and_right, cond-true, cond-false}
+use Rattle.book.specs.Correcting.{same_pair}
 use Rattle.bottom_books.specs.Tables.{cell, Small, put_cell}
 
 module _ (rows : List (List ℕ)) (kind member units : ℕ) where
@@ -44,16 +44,3 @@ module _ (rows : List (List ℕ)) (kind member units : ℕ) where
       (cases_eq k kind))
       (λ (n : m ≡ member → ⊥). other_row k m n ∙ sym (cond-false (same_pair (k, m) (kind, member)) units _ (and_right (eqb k kind) (eqb m member) (ne_eqb m member n))))
       (cases_eq m member)
-
--- where the units that are set are those of a correction
-pub corrected_cell : (held : ℕ → ℕ → ℕ) (kind member units k m : ℕ) (amount : ℤ) → units ≡ nat_abs (pos (held kind member) +ℤ amount)
-    → cond (same_pair (k, m) (kind, member)) units (held k m) ≡ corrected_units (held k m) amount (k, m) (kind, member)
-corrected_cell held kind member units k m amount e =
-    ⊎_elim
-    (λ (t : same_pair (k, m) (kind, member) ≡ true).
-    let p = and_parts (eqb k kind) (eqb m member) t in
-    let i = eqb-true k kind p.0 in
-    let j = eqb-true m member p.1 in
-    rw (t, e, ← i, ← j))
-    (λ (t : same_pair (k, m) (kind, member) ≡ false). rw t)
-    (cases_Bool (same_pair (k, m) (kind, member)))
