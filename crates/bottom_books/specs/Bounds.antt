@@ -2,7 +2,7 @@
 use Rattle.std.specs.Prelude.{◌≡◌, ℕ, ◌*◌, ◌<◌, ◌≤◌, true, leb, List, [], ◌∷◌, length, Some, slice_index}
 use Rattle.std.specs.List.{All}
 use Rattle.std.proofs.Common.{mul-le-mul, arith, get_or, ⊎_elim}
-use Rattle.std.proofs.lemmas.Bool.{and_parts, leb-true, cases_lt}
+use Rattle.std.proofs.lemmas.Bool.{leb-true, cases_lt}
 use Rattle.std.proofs.lemmas.Grind.{common_steps}
 use Rattle.std.proofs.lemmas.List.{get_or_past}
 use Rattle.std.proofs.lemmas.List.Elements.{All-from_recursion}
@@ -12,7 +12,7 @@ use Rattle.cents.proofs.Passes.{pass_at}
 use Rattle.units.specs.declared.facts.Facts.{Facts}
 use Rattle.units.specs.Kinds.{lawful, kinds, units_of}
 use Rattle.bottom_books.specs.declared.standing.Standing.{Standing}
-use Rattle.bottom_books.specs.Standings.{megawatts_lawful, given_lawful, standing_lawful, standing_kinds, standing_units}
+use Rattle.bottom_books.specs.Standings.{standing_lawful, standing_kinds, standing_units}
 use Rattle.bottom_books.specs.Given.{given_units}
 
 -- numbers that are all up to a bound are so at any place
@@ -34,21 +34,15 @@ facts_small f units e k =
 -- standing megawatts over a period, and the units that are given
 pub standing_each : (hours days : ℕ) (s : Standing) → hours ≤ 745 → days ≤ 31 → standing_lawful s ≡ true
     → (s.transmission * hours ≤ 745000000) × (s.ftr * hours ≤ 745000000) × (s.bids ≤ 2000000000) × (s.energy * hours ≤ 745000000) × (s.segments ≤ 2000000000) × (s.capacity * days ≤ 31000000) × (s.invoices ≤ 2000000000)
-standing_each hours days s hh hd c =
-    let l = and_parts (megawatts_lawful s) (given_lawful s) c in
-    let k1 = and_parts (leb s.transmission 1000000) _ l.0 in
-    let k2 = and_parts (leb s.ftr 1000000) _ k1.1 in
-    let k3 = and_parts (leb s.energy 1000000) (leb s.capacity 1000000) k2.1 in
-    let g1 = and_parts (leb s.bids 2000000000) _ l.1 in
-    let g2 = and_parts (leb s.segments 2000000000) (leb s.invoices 2000000000) g1.1 in (
-      mul-le-mul {n₂ = 1000000} {m₂ = 745} (leb-true s.transmission 1000000 k1.0) hh,
-      mul-le-mul {n₂ = 1000000} {m₂ = 745} (leb-true s.ftr 1000000 k2.0) hh,
-      leb-true s.bids 2000000000 g1.0,
-      mul-le-mul {n₂ = 1000000} {m₂ = 745} (leb-true s.energy 1000000 k3.0) hh,
-      leb-true s.segments 2000000000 g2.0,
-      mul-le-mul {n₂ = 1000000} {m₂ = 31} (leb-true s.capacity 1000000 k3.1) hd,
-      leb-true s.invoices 2000000000 g2.1,
-    )
+standing_each hours days s hh hd c = (
+  mul-le-mul {n₂ = 1000000} {m₂ = 745} (grind (arith, common_steps, c)) hh,
+  mul-le-mul {n₂ = 1000000} {m₂ = 745} (grind (arith, common_steps, c)) hh,
+  grind (arith, common_steps, c),
+  mul-le-mul {n₂ = 1000000} {m₂ = 745} (grind (arith, common_steps, c)) hh,
+  grind (arith, common_steps, c),
+  mul-le-mul {n₂ = 1000000} {m₂ = 31} (grind (arith, common_steps, c)) hd,
+  grind (arith, common_steps, c),
+)
 
 pub standing_small : (hours days : ℕ) (s : Standing) (units : List ℕ) → hours ≤ 745 → days ≤ 31 → standing_units hours days s ≡ Some units → (k : ℕ) → slice_index units k ≤ 2000000000
 standing_small hours days s units hh hd e k =
