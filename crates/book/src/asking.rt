@@ -17,7 +17,7 @@ const MOST_UNITS: i64 = 2_000_000_000;
 pub fn check_pair(count: u32, kind: u32, member: u32) -> Result<(), Fault>
     ensures { answer result ≡ pair_rule count kind member }
 {
-    if kind < 1 || kind > 7 {
+    if !(1..=7).contains(&kind) {
         return Err(Layer::Book.refuses(Refusal::Kind));
     }
     if member >= count {
@@ -30,8 +30,8 @@ pub fn check_pair(count: u32, kind: u32, member: u32) -> Result<(), Fault>
 fn added(units: u32, amount: i64) -> Result<u32, Fault>
     ensures { answer result ≡ sum_rule units amount }
 {
-    match (units as i64).checked_add(amount) {
-        Some(sum) if 0 <= sum && sum <= MOST_UNITS => Ok(sum as u32),
+    match i64::from(units).checked_add(amount) {
+        Some(sum @ 0..=MOST_UNITS) => Ok(sum as u32),
         _ => Err(Layer::Book.refuses(Refusal::Corrected)),
     }
 }

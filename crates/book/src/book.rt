@@ -24,6 +24,7 @@ pub trait Book {
     fn members(&self) -> u32
         ensures { result ≡ count self.now };
 
+    // Kind and member stay two plain numbers: offices hand them in untested, refusals 6 and 7 test them.
     /// The units of a kind, 1 to 7, and a member.
     fn units(&self, kind: u32, member: u32) -> Result<u32, Fault>
         ensures { answer result ≡ ask_rule (count self.now) (held self.now kind member) kind member };

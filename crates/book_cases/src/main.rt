@@ -23,6 +23,7 @@ fn show<B: Book>(rt: &HostRuntime, name: &str, book: &B, kind: u32, member: u32)
     }
 }
 
+// The program of FERC cases has the like; a crate of its own for these lines is no plainer.
 /// Prints whether a call was accepted.
 fn told(rt: &HostRuntime, name: &str, answer: Result<(), Fault>) -> io::Result<()> {
     match answer {
@@ -75,6 +76,7 @@ fn edges(rt: &HostRuntime, mut book: TableBook) -> io::Result<()> {
 /// Corrects one pair after the other, from the first kind of the first member on.
 fn correct_pairs<B: Correctable>(book: &mut B, from: u32, to: u32) -> u32 {
     let mut accepted = 0u32;
+    // A loop and no filter with a count, as each pair changes the book.
     for pair in from..to {
         if book.correct(pair % 7 + 1, pair / 7, 10).is_ok() {
             accepted = accepted.saturating_add(1);

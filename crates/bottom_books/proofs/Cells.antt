@@ -1,59 +1,10 @@
 -- One cell of a table set.
-use Rattle.std.proofs.Common.{◌≡◌, ℕ, ◌-◌, ◌<◌, ◌≤◌, true, false, cond, eqb, List, [], length, get_or, set, ℤ, pos, ◌+ℤ◌, nat_abs, sym, refl, ap, ◌∙◌, ⊎_elim, arith}
-use Rattle.std.proofs.lemmas.List.{get_or-set_same, get_or-set_other, set_past}
-use Rattle.std.proofs.lemmas.Bool.{cases_eq, cases_lt, eq-eqb, ne_eqb, and_from, and_left, and_right, cond-true, cond-false, and_parts, eqb-true, cases_Bool}
-use Rattle.book.specs.Correcting.{same_pair, corrected_units}
-use Rattle.bottom_books.specs.Tables.{cell, Small, put_cell}
+use Rattle.std.proofs.Common.{◌≡◌, ℕ, ◌-◌, ◌<◌, ◌≤◌, cond, List, [], length, get_or, set, arith}
+use Rattle.std.proofs.lemmas.Grind.{common_steps}
+use Rattle.book.specs.Correcting.{same_pair}
+use Rattle.bottom_books.specs.Tables.{cell}
 
-module _ (rows : List (List ℕ)) (kind member units : ℕ) where
-  -- another member's row stays
-  other_row : (k m : ℕ) → (m ≡ member → ⊥) → cell (put_cell rows kind member units) k m ≡ cell rows k m
-  other_row k m n = ap (λ (row : List ℕ). get_or row (k - 1) 0) (get_or-set_other rows member m (set (get_or rows member []) (kind - 1) units) [] n)
-
-  own_row : (k : ℕ) → member < length rows → cell (put_cell rows kind member units) k member ≡ get_or (set (get_or rows member []) (kind - 1) units) (k - 1) 0
-  own_row k l = ap (λ (row : List ℕ). get_or row (k - 1) 0) (get_or-set_same rows member (set (get_or rows member []) (kind - 1) units) [] l)
-
-  pub put_small : member < length rows → units ≤ 2000000000 → Small rows → Small (put_cell rows kind member units)
-  put_small l h small k m =
-      ⊎_elim
-      (λ (e : m ≡ member).
-      ⊎_elim
-      (λ (f : k - 1 ≡ kind - 1).
-      ⊎_elim
-      (λ (w : kind - 1 < length (get_or rows member [])). rw (e, own_row k l, f, get_or-set_same (get_or rows member []) (kind - 1) units 0 w) h)
-      (λ (w : length (get_or rows member []) ≤ kind - 1). rw (e, own_row k l, set_past (get_or rows member []) (kind - 1) units w) (small k member))
-      (cases_lt (kind - 1) (length (get_or rows member []))))
-      (λ (n : k - 1 ≡ kind - 1 → ⊥). rw (e, own_row k l, get_or-set_other (get_or rows member []) (kind - 1) (k - 1) units 0 n) (small k member))
-      (cases_eq (k - 1) (kind - 1)))
-      (λ (n : m ≡ member → ⊥). rw (other_row k m n) (small k m))
-      (cases_eq m member)
-
-  -- one pair's units are set, the others' stay
-  pub put_cell_lem : member < length rows → kind - 1 < length (get_or rows member []) → 1 ≤ kind
-      → (k m : ℕ) → 1 ≤ k → cell (put_cell rows kind member units) k m ≡ cond (same_pair (k, m) (kind, member)) units (cell rows k m)
-  put_cell_lem l w low k m h =
-      ⊎_elim
-      (λ (i : m ≡ member).
-      ⊎_elim
-      (λ (f : k ≡ kind).
-      rw (i, f) (own_row kind l ∙ get_or-set_same (get_or rows member []) (kind - 1) units 0 w
-      ∙ sym (cond-true (same_pair (kind, member) (kind, member)) units _ (and_from (eqb kind kind) (eqb member member) (eq-eqb kind kind refl) (eq-eqb member member refl)))))
-      (λ (n : k ≡ kind → ⊥).
-      rw i (own_row k l ∙ get_or-set_other (get_or rows member []) (kind - 1) (k - 1) units 0 (λ q. n (omega arith))
-      ∙ sym (cond-false (same_pair (k, member) (kind, member)) units _ (and_left (eqb k kind) (eqb member member) (ne_eqb k kind n)))))
-      (cases_eq k kind))
-      (λ (n : m ≡ member → ⊥). other_row k m n ∙ sym (cond-false (same_pair (k, m) (kind, member)) units _ (and_right (eqb k kind) (eqb m member) (ne_eqb m member n))))
-      (cases_eq m member)
-
--- where the units that are set are those of a correction
-pub corrected_cell : (held : ℕ → ℕ → ℕ) (kind member units k m : ℕ) (amount : ℤ) → units ≡ nat_abs (pos (held kind member) +ℤ amount)
-    → cond (same_pair (k, m) (kind, member)) units (held k m) ≡ corrected_units (held k m) amount (k, m) (kind, member)
-corrected_cell held kind member units k m amount e =
-    ⊎_elim
-    (λ (t : same_pair (k, m) (kind, member) ≡ true).
-    let p = and_parts (eqb k kind) (eqb m member) t in
-    let i = eqb-true k kind p.0 in
-    let j = eqb-true m member p.1 in
-    rw (t, e, ← i, ← j))
-    (λ (t : same_pair (k, m) (kind, member) ≡ false). rw t)
-    (cases_Bool (same_pair (k, m) (kind, member)))
+-- one pair's units are set, the others' stay
+pub set_cell : (rows : List (List ℕ)) (kind member units : ℕ) → member < length rows → kind - 1 < length (get_or rows member []) → 1 ≤ kind
+    → (k m : ℕ) → 1 ≤ k → cell (set rows member (set (get_or rows member []) (kind - 1) units)) k m ≡ cond (same_pair (k, m) (kind, member)) units (cell rows k m)
+set_cell rows kind member units l w low k m h = grind (arith, common_steps)

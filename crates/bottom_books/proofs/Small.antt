@@ -1,7 +1,8 @@
 -- No units are above 2,000,000,000.
-use Rattle.std.proofs.Common.{◌≡◌, ℕ, zero, suc, ◌+◌, ◌-◌, ◌<◌, ◌≤◌, List, [], ◌∷◌, ◌++◌, length, get_or, drop, replicate, Some, None, Option, refl, ap, ◌∙◌, ⊎_elim, arith}
-use Rattle.std.proofs.lemmas.List.{get_or-replicate, get_or_past, get_or_append_left, get_or-append_right, get_or-drop, length-replicate, length-append, length-drop}
+use Rattle.std.proofs.Common.{◌≡◌, ℕ, zero, suc, ◌+◌, ◌-◌, ◌<◌, ◌≤◌, List, [], ◌∷◌, ◌++◌, length, get_or, drop, replicate, Some, None, Option, refl, ⊎_elim, arith}
+use Rattle.std.proofs.lemmas.List.{get_or_append_left, get_or-append_right, get_or-drop}
 use Rattle.std.proofs.lemmas.Bool.{cases_lt}
+use Rattle.std.proofs.lemmas.Grind.{common_steps}
 use Rattle.refusal.specs.Answers.{Told, done, refused, next}
 use Rattle.refusal.proofs.Apart.{refused_done}
 use Rattle.refusal.specs.declared.Layer.TheVariants as layer
@@ -11,16 +12,8 @@ use Rattle.bottom_books.specs.Tables.{cell, Small, row_rule, rows_rule}
 abbrev pub zeros : List ℕ
 zeros = 0 ∷ 0 ∷ 0 ∷ 0 ∷ 0 ∷ 0 ∷ 0 ∷ []
 
-pub none_at : (k : ℕ) → get_or zeros k 0 ≡ 0
-none_at k =
-    ⊎_elim (λ (l : k < 7). get_or-replicate 7 k 0 0 l) (λ (l : 7 ≤ k). get_or_past zeros k 0 l) (cases_lt k 7)
-
 pub blank_cell : (n kind member : ℕ) → cell (replicate n zeros) kind member ≡ 0
-blank_cell n kind member =
-    ⊎_elim
-    (λ (l : member < n). ap (λ (row : List ℕ). get_or row (kind - 1) 0) (get_or-replicate n member zeros [] l) ∙ none_at (kind - 1))
-    (λ (l : n ≤ member). ap (λ (row : List ℕ). get_or row (kind - 1) 0) (get_or_past (replicate n zeros) member [] (omega (arith, length-replicate n zeros))))
-    (cases_lt member n)
+blank_cell n kind member = grind (arith, common_steps)
 
 -- rows that were all read: the first and the others
 pub parted : (o : Option (List ℕ)) (t : Told (List (List ℕ))) (out : List (List ℕ)) → next (row_rule o) (λ units. next t (λ more. done (units ∷ more))) ≡ done out
@@ -39,15 +32,11 @@ module _ {R : Type 0} (reads : R → Option (List ℕ)) (small : (row : R) (unit
       rw p.4 (elim member as (λ (m : ℕ). cell (p.0 ∷ p.1) kind m ≤ 2000000000) [ zero ↦ small r p.0 p.2 (kind - 1) | suc m ↦ read_small rows p.1 p.3 kind m ])
 
 -- rows with blank ones after them
-pub padded_small : (out : List (List ℕ)) (n : ℕ) → length out ≡ n → Small out → Small (out ++ drop (n - 0) (replicate 200 zeros))
-padded_small out n e small kind member =
+pub padded_small : (out : List (List ℕ)) (n : ℕ) → Small out → Small (out ++ drop n (replicate 200 zeros))
+padded_small out n small kind member =
     ⊎_elim
-    (λ (l : member < length out). rw (get_or_append_left out (drop (n - 0) (replicate 200 zeros)) [] member l) (small kind member))
+    (λ (l : member < length out). rw (get_or_append_left out (drop n (replicate 200 zeros)) [] member l) (small kind member))
     (λ (l : length out ≤ member).
-    rw (get_or-append_right out (drop (n - 0) (replicate 200 zeros)) (length out) member [] refl l, get_or-drop (n - 0) (replicate 200 zeros) (member - length out) [])
-    (omega (arith, blank_cell 200 kind (n - 0 + (member - length out)))))
+    rw (get_or-append_right out (drop n (replicate 200 zeros)) (length out) member [] refl l, get_or-drop n (replicate 200 zeros) (member - length out) [])
+    (omega (arith, blank_cell 200 kind (n + (member - length out)))))
     (cases_lt member (length out))
-
-pub padded_long : (out : List (List ℕ)) (n : ℕ) → length out ≡ n → n ≤ 200 → length (out ++ drop (n - 0) (replicate 200 zeros)) ≡ 200
-padded_long out n e l =
-    omega (arith, length-append out (drop (n - 0) (replicate 200 zeros)), length-drop (n - 0) (replicate 200 zeros), length-replicate 200 zeros)

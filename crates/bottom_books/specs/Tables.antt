@@ -1,5 +1,5 @@
 -- Tables of units.
-use Rattle.std.specs.Prelude.{ℕ, ◌-◌, ◌≤◌, Bool, cond, ◌&&◌, List, [], ◌∷◌, length, Some, None, Option, nat_le, slice_index, slice_index_or, slice_set}
+use Rattle.std.specs.Prelude.{ℕ, ◌-◌, ◌≤◌, Bool, cond, ◌&&◌, List, [], ◌∷◌, length, Some, None, Option, nat_le, slice_index, slice_index_or}
 use Rattle.refusal.specs.Answers.{Told, done, refused, next}
 use Rattle.refusal.specs.declared.Layer.TheVariants as layer
 
@@ -31,7 +31,3 @@ peopled count = nat_le 1 count && nat_le count 200
 abbrev pub table_rule : {R : Type 0} → (R → Option (List ℕ)) → ℕ → List R → Told (List (List ℕ))
 table_rule reads month rows =
     cond (dated month) (cond (peopled (length rows)) (rows_rule reads rows) (refused 4 layer.Book 0)) (refused 2 layer.Book 0)
-
--- one member's units of one kind set
-abbrev pub put_cell : List (List ℕ) → ℕ → ℕ → ℕ → List (List ℕ)
-put_cell rows kind member units = slice_set rows member (slice_set (slice_index_or rows member []) (kind - 1) units)

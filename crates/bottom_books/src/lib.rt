@@ -2,6 +2,7 @@
 #![tactic(auto)]
 
 pub mod fact_book;
+pub mod held_book;
 pub mod measure;
 pub mod period;
 pub mod standing;

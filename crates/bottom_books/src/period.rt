@@ -21,7 +21,7 @@ impl Period {
     pub fn of(hours: u32, days: u32) -> Option<Period>
         ensures { option_map {U = ℕ × ℕ} (λ p. (p.hours, p.days)) result ≡ (if period_lawful hours days then Some (hours, days) else None) }
     {
-        if hours < 1 || hours > 745 || days < 1 || days > 31 {
+        if !(1..=745).contains(&hours) || !(1..=31).contains(&days) {
             return None;
         }
         Some(Period { hours, days })
@@ -33,6 +33,7 @@ impl Measure<Standing> for Period {
 
     ghost small = { λ x row units e k. standing_small x.hours x.days row units x.hourly.1 x.daily.1 e k };
 
+    #[tactic(auto, using(crate::specs::Bounds::standing_each))]
     fn read(&self, row: &Standing) -> Option<[u32; 7]> {
         if !row.lawful() {
             return None;

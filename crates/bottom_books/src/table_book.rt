@@ -1,15 +1,15 @@
 //! A book that holds units as they are given, and takes every correction.
-ghost use Rattle.std.specs.Prelude.{◌≡◌, ℕ, true, length, take, MatchResult};
+ghost use Rattle.std.specs.Prelude.{◌≡◌, true, length, take, MatchResult};
 ghost use Rattle.refusal.specs.Answers.{answer, bare, done};
 ghost use Rattle.bottom_books.specs.Given.{given_units};
-ghost use Rattle.bottom_books.specs.Tables.{cell, table_rule};
+ghost use Rattle.bottom_books.specs.Tables.{table_rule};
 ghost use Rattle.bottom_books.specs.Bounds.{given_small};
 ghost use Rattle.std.proofs.Common.{rules};
 
+use crate::held_book::HeldBook;
 use crate::measure::Measure;
-use crate::unit_table::UnitTable;
 use book::asking::new_units;
-use book::book::{Book, Correctable};
+use book::book::Correctable;
 use cents::weights::each_at_most;
 use refusal::Fault;
 
@@ -23,32 +23,14 @@ impl Measure<[u32; 7]> for GivenUnits {
     ghost small = { λ x row units e k. given_small row units e k };
 
     fn read(&self, row: &[u32; 7]) -> Option<[u32; 7]> {
-        let units = *row;
-        if !each_at_most(units, 2_000_000_000) {
-            return None;
-        }
-        Some(units)
+        each_at_most(*row, 2_000_000_000).then_some(*row)
     }
 }
 
 /// A month's units, held as they are.
-#[derive(Clone, Copy)]
-pub struct TableBook {
-    units: UnitTable,
-}
+pub type TableBook = HeldBook<GivenUnits>;
 
-impl TableBook {
-    /// One member without units: the place in which a book is made.
-    pub fn blank() -> TableBook
-        ensures month { result.units.month ≡ 24277 }
-        ensures count { result.units.count ≡ 1 }
-        ensures units { (kind member : ℕ) → cell result.units.rows kind member ≡ 0 }
-    {
-        TableBook {
-            units: UnitTable::blank(),
-        }
-    }
-
+impl HeldBook<GivenUnits> {
     /// Makes the book of a month from rows of units; refused, it stays as it was.
     pub fn fill(&mut self, month: u32, rows: &[[u32; 7]]) -> Result<(), Fault>
         ensures told { answer result ≡ bare (table_rule given_units month rows.now) }
@@ -58,33 +40,7 @@ impl TableBook {
     }
 }
 
-impl Book for TableBook {
-    ghost month = { λ b. b.units.month };
-
-    ghost count = { λ b. b.units.count };
-
-    ghost held = { λ b kind member. cell b.units.rows kind member };
-
-    ghost dated = { Prim.search rules };
-
-    ghost peopled = { Prim.search rules };
-
-    ghost bounded = { Prim.search rules };
-
-    fn month(&self) -> u32 {
-        self.units.month
-    }
-
-    fn members(&self) -> u32 {
-        self.units.count
-    }
-
-    fn units(&self, kind: u32, member: u32) -> Result<u32, Fault> {
-        self.units.ask(kind, member)
-    }
-}
-
-impl Correctable for TableBook {
+impl Correctable for HeldBook<GivenUnits> {
     ghost takes = { λ _ _ _. true };
 
     ghost keeps = { λ _ _ _. true };

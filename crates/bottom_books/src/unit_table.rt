@@ -4,7 +4,8 @@ mod calls;
 ghost use Rattle.std.specs.Prelude.{◌≡◌, ◌≤◌, length};
 ghost use Rattle.bottom_books.specs.Tables.{Small};
 
-/// A month, a count of members, and a row of seven kinds for each.
+/// A month, a count of members, and a row of seven kinds for each. The rows are fixed memory with
+/// the count beside them, as no heap is allowed and a month has at most 200 members.
 #[derive(Clone, Copy)]
 pub struct UnitTable {
     pub(crate) month: u32,

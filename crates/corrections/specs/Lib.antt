@@ -1,2 +1,2 @@
 pub mod Fixes
-pub mod Places
+pub mod Values

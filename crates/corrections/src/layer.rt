@@ -3,13 +3,14 @@
 ghost use Rattle.std.specs.Prelude.{◌≡◌, [], take, is_some};
 ghost use Rattle.std.specs.Option.{unwrap_or};
 ghost use Rattle.corrections.specs.Fixes.{seek, takes_pair};
-ghost use Rattle.corrections.specs.Places.{value_small};
+ghost use Rattle.corrections.specs.Values.{value_small};
 ghost use Rattle.std.proofs.Common.{rules};
 
 use crate::fixes::Fixes;
+use crate::pair::Pair;
 use book::asking::{check_pair, new_units};
 use book::book::{Book, Correctable};
-use refusal::{Fault, Layer, Refusal};
+use refusal::Fault;
 
 /// A book with corrections over it.
 #[derive(Clone, Copy)]
@@ -42,7 +43,7 @@ impl<B: Book> Book for Corrections<B> {
 
     ghost peopled = { Prim.search rules };
 
-    ghost bounded = { λ b kind member. value_small (take b.fixes.used b.fixes.list) kind member _ b.fixes.small (B.Book.bounded b.book kind member) };
+    ghost bounded = { λ b kind member. value_small b.fixes.used b.fixes.list kind member _ b.fixes.small (B.Book.bounded b.book kind member) };
 
     fn month(&self) -> u32 {
         self.book.month()
@@ -54,7 +55,7 @@ impl<B: Book> Book for Corrections<B> {
 
     fn units(&self, kind: u32, member: u32) -> Result<u32, Fault> {
         check_pair(self.book.members(), kind, member)?;
-        match self.fixes.look(kind, member) {
+        match self.fixes.look(Pair { kind, member }) {
             Some(units) => Ok(units),
             None => self.book.units(kind, member),
         }
@@ -70,9 +71,6 @@ impl<B: Book> Correctable for Corrections<B> {
 
     fn correct(&mut self, kind: u32, member: u32, amount: i64) -> Result<(), Fault> {
         let units = new_units(self, kind, member, amount)?;
-        if !self.fixes.put(kind, member, units) {
-            return Err(Layer::Book.refuses(Refusal::Pair));
-        }
-        Ok(())
+        self.fixes.put(Pair { kind, member }, units)
     }
 }

@@ -3,3 +3,4 @@
 
 pub mod fixes;
 pub mod layer;
+pub mod pair;

@@ -3,7 +3,7 @@ ghost use Rattle.std.specs.Prelude.{◌≡◌, ℕ, ◌-◌, ◌<◌, ◌≤◌,
 ghost use Rattle.refusal.specs.Answers.{answer, answer_by, bare, done};
 ghost use Rattle.book.specs.Asking.{ask_rule};
 ghost use Rattle.book.specs.Correcting.{same_pair};
-ghost use Rattle.bottom_books.specs.Tables.{Small, cell, dated, peopled, rows_rule, table_rule};
+ghost use Rattle.bottom_books.specs.Tables.{Small, cell, rows_rule, table_rule};
 
 use crate::measure::Measure;
 use crate::unit_table::UnitTable;
@@ -16,11 +16,10 @@ fn read_rows<R, M: Measure<R>>(measure: &M, rows: &[R], out: &mut [[u32; 7]]) ->
     ensures told { answer result ≡ bare (rows_rule (M.reads measure.now) rows.now) }
     ensures rows { OnOk result (rows_rule (M.reads measure.now) rows.now ≡ done out.new) }
 {
-    for i in 0..rows.len() {
-        let Some(row) = measure.read(&rows[i]) else {
-            return Err(Layer::Book.refuses(Refusal::Range));
-        };
-        out[i] = row;
+    for (i, row) in rows.iter().enumerate() {
+        out[i] = measure
+            .read(row)
+            .ok_or(Layer::Book.refuses(Refusal::Range))?;
     }
     Ok(())
 }
@@ -33,21 +32,8 @@ fn fresh_rows<R, M: Measure<R>>(measure: &M, rows: &[R]) -> Result<[[u32; 7]; 20
     ensures small { IfOk result (λ fresh. Small fresh) }
 {
     let mut fresh = [[0u32; 7]; 200];
-    let count = rows.len();
-    read_rows(measure, rows, &mut fresh[0..count])?;
+    read_rows(measure, rows, &mut fresh[..rows.len()])?;
     Ok(fresh)
-}
-
-fn month_within(month: u32) -> bool
-    ensures { result ≡ dated month }
-{
-    24_277 <= month && month <= 35_999
-}
-
-fn count_within(count: usize) -> bool
-    ensures { result ≡ peopled count }
-{
-    1 <= count && count <= 200
 }
 
 impl UnitTable {
@@ -74,17 +60,16 @@ impl UnitTable {
         ensures told { answer result ≡ bare (table_rule (M.reads measure.now) month rows.now) }
         ensures after { MatchResult result (λ _. (self.new.month ≡ month) × (self.new.count ≡ length rows.now) × (table_rule (M.reads measure.now) month rows.now ≡ done (take (length rows.now) self.new.rows))) (λ _. self.new ≡ self.old) }
     {
-        if !month_within(month) {
+        if !(24_277..=35_999).contains(&month) {
             return Err(Layer::Book.refuses(Refusal::Range));
         }
-        if !count_within(rows.len()) {
+        if !(1..=200).contains(&rows.len()) {
             return Err(Layer::Book.refuses(Refusal::Count));
         }
         let fresh = fresh_rows(measure, rows)?;
-        let count = rows.len() as u32;
         *self = UnitTable {
             month,
-            count,
+            count: rows.len() as u32,
             rows: fresh,
         };
         Ok(())

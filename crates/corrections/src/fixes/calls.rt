@@ -1,18 +1,12 @@
 //! Looking a pair up, and keeping its units.
-ghost use Rattle.std.specs.Prelude.{◌≡◌, ℕ, ◌≤◌, true, [], take, if◌then◌else◌, Some, MatchBool};
-ghost use Rattle.book.specs.Correcting.{same_pair};
-ghost use Rattle.corrections.specs.Fixes.{is_for, place_of, seek, takes_pair};
+ghost use Rattle.std.specs.Prelude.{◌≡◌, ℕ, ◌≤◌, [], take, if◌then◌else◌, Some, MatchResult, position};
+ghost use Rattle.refusal.specs.Answers.{answer, bare};
+ghost use Rattle.book.specs.Correcting.{same_pair, taken_rule};
+ghost use Rattle.corrections.specs.Fixes.{is_for, seek, takes_pair};
 
 use crate::fixes::{Fix, Fixes};
-
-impl Fix {
-    /// Whether this is the pair's.
-    fn is_for(self, kind: u32, member: u32) -> bool
-        ensures { result ≡ is_for self kind member }
-    {
-        kind == self.kind && member == self.member
-    }
-}
+use crate::pair::Pair;
+use refusal::{Fault, Layer, Refusal};
 
 impl Fixes {
     /// No pair is corrected.
@@ -20,8 +14,7 @@ impl Fixes {
         ensures { take result.used result.list ≡ [] }
     {
         let blank = Fix {
-            kind: 0,
-            member: 0,
+            pair: Pair { kind: 0, member: 0 },
             units: 0,
         };
         Fixes {
@@ -30,47 +23,39 @@ impl Fixes {
         }
     }
 
-    /// The place of a pair, or the next free one.
-    fn place(&self, kind: u32, member: u32) -> usize
-        ensures { result ≡ place_of (take self.now.used self.now.list) kind member }
+    /// The place of a pair that was corrected.
+    fn place(&self, pair: Pair) -> Option<usize>
+        ensures { result ≡ position (is_for pair.kind pair.member) (take self.now.used self.now.list) }
     {
-        for i in 0..self.used {
-            if self.list[i].is_for(kind, member) {
-                return i;
-            }
-        }
-        self.used
+        self.list[..self.used]
+            .iter()
+            .position(|fix| pair == fix.pair)
     }
 
     /// The units that a pair was corrected to.
-    pub(crate) fn look(&self, kind: u32, member: u32) -> Option<u32>
-        ensures { result ≡ seek (take self.now.used self.now.list) kind member }
+    pub(crate) fn look(&self, pair: Pair) -> Option<u32>
+        ensures { result ≡ seek (take self.now.used self.now.list) pair.kind pair.member }
     {
-        let at = self.place(kind, member);
-        if at < self.used {
-            Some(self.list[at].units)
-        } else {
-            None
-        }
+        self.list[..self.used]
+            .iter()
+            .find(|fix| pair == fix.pair)
+            .map(|fix| fix.units)
     }
 
-    /// Keeps a pair's units; false where no place is left for a new pair, and then nothing changes.
-    pub(crate) fn put(&mut self, kind: u32, member: u32, units: u32) -> bool
+    /// Keeps a pair's units; refused where no place is left for a new pair, and then nothing changes.
+    pub(crate) fn put(&mut self, pair: Pair, units: u32) -> Result<(), Fault>
         requires { units ≤ 2000000000 }
-        ensures told { result ≡ takes_pair (take self.old.used self.old.list) kind member }
-        ensures after { MatchBool result ((k m : ℕ) → seek (take self.new.used self.new.list) k m ≡ (if same_pair (k, m) (kind, member) then Some units else seek (take self.old.used self.old.list) k m)) (self.new ≡ self.old) }
+        ensures told { answer result ≡ bare (taken_rule (takes_pair (take self.old.used self.old.list) pair.kind pair.member) units) }
+        ensures after { MatchResult result (λ _. (k m : ℕ) → seek (take self.new.used self.new.list) k m ≡ (if same_pair (k, m) (pair.kind, pair.member) then Some units else seek (take self.old.used self.old.list) k m)) (λ _. self.new ≡ self.old) }
     {
-        let at = self.place(kind, member);
-        if at >= 64 {
-            return false;
+        match self.place(pair) {
+            Some(at) => self.list[at] = Fix { pair, units },
+            None if self.used < 64 => {
+                self.list[self.used] = Fix { pair, units };
+                self.used += 1;
+            }
+            None => return Err(Layer::Book.refuses(Refusal::Pair)),
         }
-        let used = self.used.max(at + 1);
-        self.list[at] = Fix {
-            kind,
-            member,
-            units,
-        };
-        self.used = used;
-        true
+        Ok(())
     }
 }

@@ -1,0 +1,8 @@
+//! A kind and a member, whose units are corrected together.
+
+/// A kind, 1 to 7, and a member's place, counted from 0.
+#[derive(Clone, Copy, PartialEq, Eq, Debug)]
+pub struct Pair {
+    pub kind: u32,
+    pub member: u32,
+}
