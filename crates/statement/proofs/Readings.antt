@@ -2,14 +2,8 @@
 use Rattle.std.proofs.Common.{◌≡◌, ℕ, suc, ◌+◌, ◌-◌, ◌<◌, ◌≤◌, ltb, List, [], ◌++◌, length, take, set, sym, ap, ◌∙◌, arith}
 use Rattle.std.proofs.lemmas.List.{take_more_set, take_all, append_assoc, append-nil}
 use Rattle.std.proofs.lemmas.Bool.{cond-true, lt-ltb}
-use Rattle.refusal.specs.Answers.{done, refused}
-use Rattle.refusal.specs.declared.Layer.{Layer}
-use Rattle.refusal.proofs.Apart.{refused_done}
+use Rattle.refusal.specs.Answers.{done}
 use Rattle.statement.specs.Readings.{book_row, book_rows, row_asked}
-
--- a member of the book is never refused
-pub never_refused : (count member n p : ℕ) (held : ℕ → ℕ → ℕ) (l : Layer) → member < count → refused n l p ≡ row_asked count held member → ⊥
-never_refused count member n p held l h e = refused_done n l p (book_row held member) (e ∙ cond-true (ltb member count) _ _ (lt-ltb member count h))
 
 row_is : (count member : ℕ) (held : ℕ → ℕ → ℕ) (row : List ℕ) → member < count → done row ≡ row_asked count held member → row ≡ book_row held member
 row_is count member held row h e = let d : done row ≡ done (book_row held member) = e ∙ cond-true (ltb member count) _ _ (lt-ltb member count h) in cc

@@ -1,16 +1,10 @@
 -- A statement filled component by component.
-use Rattle.std.proofs.Common.{◌≡◌, ℕ, zero, suc, ◌+◌, ◌*◌, ◌<◌, ◌≤◌, List, [], ◌∷◌, ◌++◌, length, get_or, take, drop, set, ℤ, pos, sym, refl, ap, ◌∙◌, mul-le-mul_right, arith}
+use Rattle.std.proofs.Common.{◌≡◌, ℕ, zero, suc, ◌+◌, ◌*◌, ◌<◌, List, [], ◌∷◌, ◌++◌, length, get_or, take, drop, set, ℤ, pos, sym, refl, ap, ◌∙◌, arith}
 use borrow.Rule.Slice.PartMut.{put_mid}
 use Rattle.std.proofs.lemmas.List.{length-append, length-map, take_more_set, take_all, take_at, drop_at, drop-drop, append_assoc, append-nil, drop_all}
 use Rattle.charges_text.specs.declared.charges.ComponentCharge.{ComponentCharge}
 use Rattle.statement.specs.Columns.{kind_of, column}
 use Rattle.statement.specs.Charges.{Shares, charge, charged, components, cells}
-
-pub row_end : (c n : ℕ) → c < 13 → c * n + n ≤ 13 * n
-row_end c n h = omega (arith, mul-le-mul_right n h)
-
-pub next_row : (c n : ℕ) → (c + 1) * n ≡ c * n + n
-next_row c n = omega arith
 
 module _ (shares : Shares) (long : (p : ℤ) (us : List ℕ) → length (shares p us) ≡ length us) (pools : List ℤ) (rows : List (List ℕ)) where
   pub charge_length : (c : ℕ) → length (charge shares pools rows c) ≡ length rows
