@@ -13,7 +13,7 @@ const MOST_UNITS: u64 = 2_000_000_000;
 /// The largest pool, in cents, either way.
 const MOST_CENTS: u64 = 4_000_000_000;
 
-/// A month that passed all tests.
+/// A month that passed all tests; only `test` makes one.
 #[derive(Drop)]
 pub(crate) struct TestedMonth<'a> {
     pub pools: [i64; 13],

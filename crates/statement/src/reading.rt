@@ -12,6 +12,7 @@ fn member_row<B: Book>(book: &B, member: u32) -> Result<[u32; 7], Fault>
     ensures { answer result ≡ row_asked (B.count book.now) (B.held book.now) member }
 {
     let mut row = [0u32; 7];
+    // A loop, as `array::try_from_fn` does not tell which book its closure asked.
     for (i, units) in row.iter_mut().enumerate() {
         *units = book.units(i as u32 + 1, member)?;
     }

@@ -49,11 +49,8 @@ pub overflow_cast-balance-2 : goal.overflow_cast-balance-2
 unfolding pool
 overflow_cast-balance-2 g c = omega (arith, ints, same g c, summed g c, small g c, within g c)
 
--- three equal fields make equal charges
-charge_same : {p q b d : ℤ} {n m : ℕ} → p ≡ q → n ≡ m → b ≡ d → ◌≡◌ {A = ComponentCharge} (record { pool = p; units = n; balance = b }) (record { pool = q; units = m; balance = d })
-charge_same e f h = rw (e, f, h)
-
 pub returns-clause-value : goal.returns-clause-value
 unfolding pool us ss
 returns-clause-value g c =
-    charge_same (same g c) (c.total-units.ensures ∙ ap (λ (k : ℕ). sum (column c.args.self.now.units.rows.now k)) c.kind_of-kind.ensures.value) (omega (arith, ints, same g c, summed g c, small g c, within g c))
+    let units : c.total-units.result ≡ sum (column c.args.self.now.units.rows.now (kind_of c.args.component)) = rw (← c.kind_of-kind.ensures.value) c.total-units.ensures in
+    rw (same g c, units) (ap (λ (b : ℤ). record { pool = get_or c.args.self.now.pools c.args.component (pos 0); units = sum (column c.args.self.now.units.rows.now (kind_of c.args.component)); balance = b }) (omega (arith, ints, summed g c, small g c, within g c)))
