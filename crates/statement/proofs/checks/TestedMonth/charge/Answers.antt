@@ -1,6 +1,6 @@
 use Rattle.std.proofs.Common.{refl, arith}
 use Rattle.std.proofs.lemmas.List.{length-set}
-use Rattle.statement.proofs.Statements.{cells_none, cells_more, cells_end, components_none, components_more, components_end}
+use Rattle.statement.proofs.Statements.{cells_none, cells_more, components_none, components_more}
 use Rattle.statement.proofs.checks.TestedMonth.charge.Goals as goal
 
 pub loop-component-init : goal.loop-component-init
@@ -20,13 +20,3 @@ loop-component-preserved g c =
       components_more sh long m.pools m.units.rows.now k c.loop-component.charge-items c.charge_component.result (omega arith) c.loop-component.invariant.1 c.charge_component.ensures.value,
       cells_more sh long m.pools m.units.rows.now k _ c.args.statement.now c.loop-component.statement c.charge_component.new.row (omega arith) c.loop-component.invariant.2 c.charge_component.ensures.row,
     )
-
-pub returns : goal.returns
-returns g c =
-    let sh = g.R.Rule.shares c.args.rule.now in
-    let long = g.met.R.Rule.long c.args.rule.now in
-    let m = c.args.self.now in
-    record {
-      value = components_end sh long m.pools m.units.rows.now c.loop-component.component c.loop-component.charge-items (omega arith) c.loop-component.invariant.0 c.loop-component.invariant.1;
-      cells = cells_end sh long m.pools m.units.rows.now c.loop-component.component c.args.statement.now c.loop-component.statement (omega arith) c.requires c.loop-component.invariant.2;
-    }

@@ -3,7 +3,6 @@ use Rattle.std.proofs.Common.{◌≡◌, ℕ, ◌≤◌, List, get_or, ℤ, pos,
 use Rattle.std.proofs.lemmas.List.{take_all, length-map}
 use Rattle.std.proofs.lemmas.Int.{to_z-of_z}
 use Rattle.cents.specs.Cutting.{sum_z}
-use Rattle.charges_text.specs.declared.charges.ComponentCharge.{ComponentCharge}
 use Rattle.sharing.proofs.Lawful.{front_small}
 use Rattle.statement.specs.Columns.{kind_of, column}
 use Rattle.statement.specs.Charges.{charge}
