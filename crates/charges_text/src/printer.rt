@@ -1,36 +1,41 @@
 //! The text of a month's charges.
-ghost use Rattle.std.specs.Prelude.{◌≡◌, IfOk, string_bytes};
+ghost use Rattle.std.specs.Prelude.{◌≡◌, IfOk, Some, string_bytes};
 ghost use Rattle.std.specs.List.{flat_map};
 ghost use Rattle.charges_text.specs.Printed.{component_lines, member_line, printed};
 
 use crate::charges::{ComponentCharge, MemberCharge};
-use crate::lines::{component_line, member_line, month_line};
 use std::alloc::{AllocError, Global};
+use std::fmt;
 
 /// The thirteen components' lines.
-fn component_lines(heap: Global, components: [ComponentCharge; 13]) -> Result<String, AllocError>
-    ensures { IfOk result (λ t. string_bytes t ≡ component_lines 1 components) }
-{
-    let mut text = String::new(heap);
-    let mut number = 1;
-    for charge in &components {
-        let line = component_line(heap, number, *charge)?;
-        text.push_str(line.as_str())?;
-        number += 1;
+#[derive(Drop)]
+struct Components([ComponentCharge; 13]);
+
+/// The members' lines. Not one type with `Components`, whose lines have numbers.
+#[derive(Drop)]
+struct Members<'a>(&'a [MemberCharge]);
+
+impl fmt::Display for Components {
+    ghost output = { λ c. Some (component_lines 1 c.0) };
+
+    fn fmt<W: fmt::Write>(&self, f: &mut fmt::Formatter<W>) -> fmt::Result {
+        for (i, charge) in self.0.iter().enumerate() {
+            let number = i + 1;
+            writeln!(f, "component={number},{charge}")?;
+        }
+        Ok(())
     }
-    Ok(text)
 }
 
-/// The members' lines.
-fn member_lines(heap: Global, members: &[MemberCharge]) -> Result<String, AllocError>
-    ensures { IfOk result (λ t. string_bytes t ≡ flat_map member_line members.now) }
-{
-    let mut text = String::new(heap);
-    for member in members {
-        let line = member_line(heap, *member)?;
-        text.push_str(line.as_str())?;
+impl fmt::Display for Members<'_> {
+    ghost output = { λ m. Some (flat_map member_line m.0.now) };
+
+    fn fmt<W: fmt::Write>(&self, f: &mut fmt::Formatter<W>) -> fmt::Result {
+        for member in self.0 {
+            writeln!(f, "user={member}")?;
+        }
+        Ok(())
     }
-    Ok(text)
 }
 
 /// The whole text: the month, its components, its members.
@@ -42,8 +47,7 @@ pub fn charges_text(
 ) -> Result<String, AllocError>
     ensures { IfOk result (λ t. string_bytes t ≡ printed month components members.now) }
 {
-    let first = month_line(heap, month)?;
-    let second = component_lines(heap, components)?;
-    let third = member_lines(heap, members)?;
-    format!(in heap; "{first}{second}{third}")
+    let components = Components(components);
+    let members = Members(members);
+    format!(in heap; "month={month}\n{components}{members}")
 }

@@ -2,4 +2,4 @@ pub mod Columns
 pub mod Statements
 pub mod Readings
 pub mod Passed
-pub mod Members
+pub mod FromFn

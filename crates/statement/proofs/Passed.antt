@@ -19,7 +19,7 @@ both : (t u : Passed) → done tt ≡ next t (λ _. u) → (done tt ≡ t) × (d
 both (done v) u e = (refl, e)
 both (refused n l p) u e = absurd (done_refused tt n l p e)
 
-totals_all : (rows : List (List ℕ)) (k n : ℕ) → done tt ≡ totals_rule rows k n → (j : ℕ) → k ≤ j → j < k + n → sum (column rows j) ≤ 2000000000
+pub totals_all : (rows : List (List ℕ)) (k n : ℕ) → done tt ≡ totals_rule rows k n → (j : ℕ) → k ≤ j → j < k + n → sum (column rows j) ≤ 2000000000
 totals_all rows k zero e j low high = absurd (omega arith)
 totals_all rows k (suc n) e j low high =
     let h = kept (leb (sum (column rows k)) 2000000000) (totals_rule rows (k + 1) n) 8 layer.Ledger (k + 1) e in
@@ -28,7 +28,7 @@ totals_all rows k (suc n) e j low high =
     (λ (i : j ≡ k → ⊥). totals_all rows (k + 1) n h.1 j (omega arith) (omega arith))
     (cases_eq j k)
 
-pools_all : (pools : List ℤ) (c : ℕ) → done tt ≡ pools_rule pools c → (i : ℕ) → nat_abs (get_or pools i (pos 0)) ≤ 4000000000
+pub pools_all : (pools : List ℤ) (c : ℕ) → done tt ≡ pools_rule pools c → (i : ℕ) → nat_abs (get_or pools i (pos 0)) ≤ 4000000000
 pools_all [] c e i = omega arith
 pools_all (p ∷ pools) c e zero = leb-true (nat_abs p) 4000000000 (kept (leb (nat_abs p) 4000000000) (pools_rule pools (c + 1)) 9 layer.Ledger (c + 1) e).0
 pools_all (p ∷ pools) c e (suc i) = pools_all pools (c + 1) (kept (leb (nat_abs p) 4000000000) (pools_rule pools (c + 1)) 9 layer.Ledger (c + 1) e).1 i

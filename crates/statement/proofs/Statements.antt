@@ -1,16 +1,10 @@
 -- A statement filled component by component.
-use Rattle.std.proofs.Common.{◌≡◌, ℕ, zero, suc, ◌+◌, ◌*◌, ◌<◌, ◌≤◌, List, [], ◌∷◌, ◌++◌, length, get_or, take, drop, set, ℤ, pos, sym, refl, ap, ◌∙◌, mul-le-mul_right, arith}
+use Rattle.std.proofs.Common.{◌≡◌, ℕ, zero, suc, ◌+◌, ◌*◌, ◌<◌, List, [], ◌∷◌, ◌++◌, length, get_or, take, drop, set, ℤ, pos, sym, refl, ap, ◌∙◌, arith}
 use borrow.Rule.Slice.PartMut.{put_mid}
-use Rattle.std.proofs.lemmas.List.{length-append, length-map, take_more_set, take_all, take_at, drop_at, drop-drop, append_assoc, append-nil, drop_all}
+use Rattle.std.proofs.lemmas.List.{length-append, length-map, take_more_set, take_at, drop_at, drop-drop, append_assoc}
 use Rattle.charges_text.specs.declared.charges.ComponentCharge.{ComponentCharge}
 use Rattle.statement.specs.Columns.{kind_of, column}
 use Rattle.statement.specs.Charges.{Shares, charge, charged, components, cells}
-
-pub row_end : (c n : ℕ) → c < 13 → c * n + n ≤ 13 * n
-row_end c n h = omega (arith, mul-le-mul_right n h)
-
-pub next_row : (c n : ℕ) → (c + 1) * n ≡ c * n + n
-next_row c n = omega arith
 
 module _ (shares : Shares) (long : (p : ℤ) (us : List ℕ) → length (shares p us) ≡ length us) (pools : List ℤ) (rows : List (List ℕ)) where
   pub charge_length : (c : ℕ) → length (charge shares pools rows c) ≡ length rows
@@ -35,20 +29,12 @@ module _ (shares : Shares) (long : (p : ℤ) (us : List ℕ) → length (shares 
       let p : cells shares pools rows (c + 1) ≡ done ++ charge shares pools rows c = ap (cells shares pools rows) {x = c + 1} {y = suc c} (omega arith) in
       rw (t, d, f, p, er) (sym (append_assoc done (charge shares pools rows c) (drop ((c + 1) * length rows) entry)))
 
-  pub cells_end : (c : ℕ) (entry memory : List ℤ) → c ≡ 13 → length entry ≡ 13 * length rows → memory ≡ cells shares pools rows c ++ drop (c * length rows) entry → memory ≡ cells shares pools rows 13
-  cells_end c entry memory e l em =
-      let d : drop (c * length rows) entry ≡ [] = drop_all (c * length rows) entry (omega (arith, l, ap (λ (n : ℕ). n * length rows) e)) in
-      em ∙ ap (λ (zs : List ℤ). cells shares pools rows c ++ zs) d ∙ append-nil (cells shares pools rows c) ∙ ap (cells shares pools rows) e
-
   pub components_more : (c : ℕ) (charges : List ComponentCharge) (x : ComponentCharge) → c < length charges → take c charges ≡ components shares pools rows c → x ≡ charged shares pools rows c
       → take (c + 1) (set charges c x) ≡ components shares pools rows (c + 1)
   unfolding components
   components_more c charges x l h e =
       let p : components shares pools rows (c + 1) ≡ components shares pools rows c ++ (charged shares pools rows c ∷ []) = ap (components shares pools rows) {x = c + 1} {y = suc c} (omega arith) in
       take_more_set charges c x l ∙ rw (h, e) (sym p)
-
-  pub components_end : (c : ℕ) (charges : List ComponentCharge) → c ≡ 13 → length charges ≡ 13 → take c charges ≡ components shares pools rows c → charges ≡ components shares pools rows 13
-  components_end c charges e l h = sym (take_all c charges (omega arith)) ∙ h ∙ ap (components shares pools rows) e
 
   pub components_none : [] ≡ components shares pools rows 0
   unfolding components

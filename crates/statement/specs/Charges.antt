@@ -1,5 +1,6 @@
 -- What a month's bill charges.
-use Rattle.std.specs.Prelude.{ℕ, zero, suc, ◌+◌, ◌*◌, ◌/◌, List, [], ◌∷◌, ◌++◌, length, ℤ, pos, ◌-ℤ◌, sum, slice_index_or}
+use Rattle.std.specs.Prelude.{ℕ, zero, suc, ◌+◌, ◌*◌, ◌/◌, List, [], ◌∷◌, ◌++◌, map, length, ℤ, pos, ◌-ℤ◌, sum, slice_index_or}
+use Rattle.std.specs.List.{range_with_len}
 use Rattle.cents.specs.Cutting.{sum_z}
 use Rattle.charges_text.specs.declared.charges.ComponentCharge.{ComponentCharge}
 use Rattle.statement.specs.Columns.{kind_of, column}
@@ -29,10 +30,6 @@ unfoldable pub cells : Shares → List ℤ → List (List ℕ) → ℕ → List 
 cells shares pools rows zero = []
 cells shares pools rows (suc n) = cells shares pools rows n ++ charge shares pools rows n
 
--- a statement's cells of one member, for the components from a place on
-abbrev pub member_cells : List ℤ → ℕ → ℕ → ℕ → List ℤ
-member_cells statement member c zero = []
-member_cells statement member c (suc n) = slice_index_or statement (c * (length statement / 13) + member) (pos 0) ∷ member_cells statement member (c + 1) n
-
+-- a statement's cells of one member, component by component
 unfoldable pub member_charges : List ℤ → ℕ → List ℤ
-member_charges statement member = member_cells statement member 0 13
+member_charges statement member = map (λ c. slice_index_or statement (c * (length statement / 13) + member) (pos 0)) (range_with_len 0 13)

@@ -1,9 +1,10 @@
 //! What is tested before anything is charged.
-ghost use Rattle.std.specs.Prelude.{◌≡◌, ◌-◌, ◌*◌, ◌^◌, ◌<◌, min, ◌&&◌, sum, ◌==◌, nat_le};
-ghost use Rattle.refusal.specs.Answers.{answer};
+ghost use Rattle.std.specs.Prelude.{◌≡◌, ℕ, ◌*◌, ◌<◌, ◌≤◌, IfOk, length, pos, sum, slice_index_or, unsigned_abs};
+ghost use Rattle.refusal.specs.Answers.{answer, answer_by};
 ghost use Rattle.statement.specs.Columns.{column};
 ghost use Rattle.statement.specs.Checks.{totals_rule, pools_rule, charge_rule};
 
+use crate::usage::Usage;
 use refusal::{Fault, Layer, Refusal};
 
 /// The most units of one kind, of all members together.
@@ -12,24 +13,40 @@ const MOST_UNITS: u64 = 2_000_000_000;
 /// The largest pool, in cents, either way.
 const MOST_CENTS: u64 = 4_000_000_000;
 
-/// The units of a kind, of all members together; the sum stops growing at the largest number.
-pub(crate) fn kind_total(units: &[[u32; 7]], kind: usize) -> u64
-    requires { kind < 7 }
-    ensures { result ≡ min (sum (column units.now kind)) (2 ^ 64 - 1) }
-{
-    let mut total = 0u64;
-    for row in units {
-        total = total.saturating_add(u64::from(row[kind]));
-    }
-    total
+/// A month that passed all tests; only `test` makes one.
+#[derive(Drop)]
+pub(crate) struct TestedMonth<'a> {
+    pub pools: [i64; 13],
+    pub units: Usage<'a>,
+    ghost within: { (c : ℕ) → unsigned_abs (slice_index_or pools c (pos 0)) ≤ 4000000000 },
+    ghost totals: { (k : ℕ) → k < 7 → sum (column units.rows.now k) ≤ 2000000000 },
 }
 
-/// Refuses the lowest kind whose total is too large.
-pub(crate) fn check_totals(units: &[[u32; 7]]) -> Result<(), Fault>
-    ensures { answer result ≡ totals_rule units.now 0 7 }
+impl<'a> TestedMonth<'a> {
+    /// All tests of a month, in their order.
+    pub(crate) fn test(pools: [i64; 13], rows: &'a [[u32; 7]], cells: usize) -> Result<Self, Fault>
+        ensures told { answer_by (λ _. tt) result ≡ charge_rule pools rows.now cells }
+        ensures kept { IfOk result (λ m. (m.pools ≡ pools) × (m.units.rows.now ≡ rows.now) × (cells ≡ 13 * length rows.now)) }
+    {
+        if rows.len().checked_mul(13) != Some(cells) {
+            return Err(Layer::Ledger.refuses(Refusal::Length));
+        }
+        if rows.is_empty() || rows.len() > 200 {
+            return Err(Layer::Ledger.refuses(Refusal::Count));
+        }
+        let units = Usage { rows };
+        check_totals(&units)?;
+        check_pools(pools)?;
+        Ok(TestedMonth { pools, units })
+    }
+}
+
+/// Refuses the lowest kind whose total is too large. The kinds are counted, as no list has them.
+fn check_totals(units: &Usage<'_>) -> Result<(), Fault>
+    ensures { answer result ≡ totals_rule units.now.rows.now 0 7 }
 {
     for kind in 0..7 {
-        if kind_total(units, kind) > MOST_UNITS {
+        if units.total(kind) > MOST_UNITS {
             return Err(Layer::Ledger.refuses_at(Refusal::Total, kind as u32 + 1));
         }
     }
@@ -37,43 +54,13 @@ pub(crate) fn check_totals(units: &[[u32; 7]]) -> Result<(), Fault>
 }
 
 /// Refuses the lowest component whose pool is out of range.
-pub(crate) fn check_pools(pools: [i64; 13]) -> Result<(), Fault>
+fn check_pools(pools: [i64; 13]) -> Result<(), Fault>
     ensures { answer result ≡ pools_rule pools 0 }
 {
-    for component in 0..13 {
-        if pools[component].unsigned_abs() > MOST_CENTS {
-            return Err(Layer::Ledger.refuses_at(Refusal::Pool, component as u32 + 1));
+    for (i, pool) in pools.iter().enumerate() {
+        if pool.unsigned_abs() > MOST_CENTS {
+            return Err(Layer::Ledger.refuses_at(Refusal::Pool, i as u32 + 1));
         }
     }
     Ok(())
-}
-
-/// All tests of a month, in their order.
-pub(crate) fn check_month(pools: [i64; 13], units: &[[u32; 7]], cells: usize) -> Result<(), Fault>
-    ensures { answer result ≡ charge_rule pools units.now cells }
-{
-    if !statement_fits(cells, units.len()) {
-        return Err(Layer::Ledger.refuses(Refusal::Length));
-    }
-    if !members_within(units.len()) {
-        return Err(Layer::Ledger.refuses(Refusal::Count));
-    }
-    check_totals(units)?;
-    check_pools(pools)
-}
-
-/// Whether a statement has thirteen cells a member.
-fn statement_fits(cells: usize, members: usize) -> bool
-    ensures { result ≡ (cells == 13 * members) }
-{
-    match members.checked_mul(13) {
-        Some(wanted) => cells == wanted,
-        None => false,
-    }
-}
-
-fn members_within(members: usize) -> bool
-    ensures { result ≡ (nat_le 1 members && nat_le members 200) }
-{
-    1 <= members && members <= 200
 }

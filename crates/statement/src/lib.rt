@@ -1,7 +1,8 @@
 //! A month's statement: every component's pool shared over the members by their units.
 #![tactic(auto)]
 
-pub mod checks;
+mod checks;
 pub mod component;
 pub mod month;
 pub mod reading;
+mod usage;

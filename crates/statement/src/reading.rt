@@ -11,15 +11,11 @@ use refusal::{Fault, Layer, Refusal};
 fn member_row<B: Book>(book: &B, member: u32) -> Result<[u32; 7], Fault>
     ensures { answer result ≡ row_asked (B.count book.now) (B.held book.now) member }
 {
-    let row = [
-        book.units(1, member)?,
-        book.units(2, member)?,
-        book.units(3, member)?,
-        book.units(4, member)?,
-        book.units(5, member)?,
-        book.units(6, member)?,
-        book.units(7, member)?,
-    ];
+    let mut row = [0u32; 7];
+    // A loop, as `array::try_from_fn` does not tell which book its closure asked.
+    for (i, units) in row.iter_mut().enumerate() {
+        *units = book.units(i as u32 + 1, member)?;
+    }
     Ok(row)
 }
 
@@ -31,8 +27,8 @@ pub fn read_book<B: Book>(book: &B, out: &mut [[u32; 7]]) -> Result<(), Fault>
     if out.len() != book.members() as usize {
         return Err(Layer::Ledger.refuses(Refusal::Length));
     }
-    for i in 0..out.len() {
-        out[i] = member_row(book, i as u32)?;
+    for (member, row) in out.iter_mut().enumerate() {
+        *row = member_row(book, member as u32)?;
     }
     Ok(())
 }

@@ -3,10 +3,10 @@ use Rattle.statement.specs.Checks.{totals_rule}
 use Rattle.statement.proofs.Columns.{totals_stop, totals_more}
 use Rattle.statement.proofs.checks.check_totals.Goals as goal
 
-pub returns-then-kind_total-gt-MOST_UNITS : goal.returns-then-kind_total-gt-MOST_UNITS
-returns-then-kind_total-gt-MOST_UNITS c =
-    rw c.refuses_at.ensures (totals_stop c.args.units.now c.loop-kind.kind (totals_rule c.args.units.now 0 7) (omega arith) c.loop-kind.invariant (omega (arith, c.kind_total.ensures)))
+pub returns-then-total-gt-MOST_UNITS : goal.returns-then-total-gt-MOST_UNITS
+returns-then-total-gt-MOST_UNITS c =
+    rw c.refuses_at.ensures (totals_stop c.args.units.now.rows.now c.loop-kind.kind (totals_rule c.args.units.now.rows.now 0 7) (omega arith) c.loop-kind.invariant (omega (arith, c.total.ensures)))
 
 pub loop-kind-preserved : goal.loop-kind-preserved
 loop-kind-preserved c =
-    totals_more c.args.units.now c.loop-kind.kind (totals_rule c.args.units.now 0 7) (omega arith) c.loop-kind.invariant (omega (arith, c.kind_total.ensures))
+    totals_more c.args.units.now.rows.now c.loop-kind.kind (totals_rule c.args.units.now.rows.now 0 7) (omega arith) c.loop-kind.invariant (omega (arith, c.total.ensures))

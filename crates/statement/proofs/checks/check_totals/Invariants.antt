@@ -4,4 +4,4 @@ use Rattle.statement.proofs.checks.check_totals.Given as goal
 
 -- the kinds that are left decide
 abbrev pub invariant-loop-kind : goal.invariant-loop-kind
-invariant-loop-kind l = totals_rule l.units l.kind (7 - l.kind) ≡ totals_rule l.units 0 7
+invariant-loop-kind l = totals_rule l.units.rows.now l.kind (7 - l.kind) ≡ totals_rule l.units.rows.now 0 7

@@ -1,19 +1,13 @@
-use Rattle.std.proofs.Common.{◌^◌, ◌<◌, length, refl, ◌∙◌, arith, w64, rules}
-use Rattle.std.proofs.lemmas.List.{length-set}
-use Rattle.std.proofs.lemmas.Int.{to_z-of_z}
-use Rattle.statement.proofs.Members.{member_none, member_more, member_end}
+use Rattle.std.proofs.Common.{ℕ, ◌+◌, ◌*◌, ◌/◌, length, get_or, pos, arith, rules}
+use Rattle.std.proofs.lemmas.List.FromFn.{fill_by_all}
+use Rattle.statement.specs.Charges.{member_charges}
+use Rattle.statement.proofs.FromFn.{made_from}
 use Rattle.statement.proofs.month.member_charges.Goals as goal
 
-pub loop-component-init : goal.loop-component-init
-loop-component-init c = (refl, member_none c.args.statement.now c.args.member)
-
-pub loop-component-preserved : goal.loop-component-preserved
-loop-component-preserved c =
-    let s : length c.args.statement.now < 2 ^ 63 = search rules in
-    let e = to_z-of_z w64 c.cell.result (record { sfits = c.cell.type_inv }) in (
-      simp length-set c.loop-component.invariant.0,
-      member_more c.args.statement.now c.args.member c.loop-component.component c.saturating_add-at.result c.loop-component.charges _ (omega arith) (omega arith) s (omega (arith, c.saturating_add-at.ensures)) (e ∙ c.cell.ensures) c.loop-component.invariant.1,
-    )
-
 pub returns : goal.returns
-returns c = member_end c.args.statement.now c.args.member c.loop-component.component c.loop-component.charges (omega arith) c.loop-component.invariant.0 c.loop-component.invariant.1
+unfolding member_charges
+returns c =
+    let s = c.args.statement.now in
+    let f = λ (k : ℕ). get_or s (k * (length s / 13) + c.args.member) (pos 0) in
+    fill_by_all f c.from_fn.result 13 (pos 0) c.from_fn.ensures.items.long
+    (λ k below. made_from _ _ _ f (pos 0) (λ j y q called. (search rules, search rules)) 13 0 c.from_fn.ensures.items.each k (omega arith) (omega arith))

@@ -1,0 +1,32 @@
+//! The units of a month's members.
+ghost use Rattle.std.specs.Prelude.{◌≡◌, ◌<◌, ◌≤◌, length, sum, take};
+ghost use Rattle.statement.specs.Columns.{column};
+
+/// A row of units of the seven kinds for each of at most 200 members.
+#[derive(Clone, Copy)]
+pub(crate) struct Usage<'a> {
+    pub rows: &'a [[u32; 7]],
+    ghost few: { length rows.now ≤ 200 },
+}
+
+impl Usage<'_> {
+    /// The units of the kind at a place, of all members together.
+    pub(crate) fn total(&self, kind: usize) -> u64
+        requires { kind < 7 }
+        ensures { result ≡ sum (column self.now.rows.now kind) }
+    {
+        self.rows.iter().map(|row| u64::from(row[kind])).sum()
+    }
+
+    /// The same member by member. The memory is fixed, so it has room for the most members.
+    pub(crate) fn column(&self, kind: usize) -> [u32; 200]
+        requires { kind < 7 }
+        ensures { take (length self.now.rows.now) result ≡ column self.now.rows.now kind }
+    {
+        let mut column = [0u32; 200];
+        for (member, row) in self.rows.iter().enumerate() {
+            column[member] = row[kind];
+        }
+        column
+    }
+}
