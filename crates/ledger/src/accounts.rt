@@ -1,9 +1,9 @@
 //! The thirteen accounts of a ledger.
-ghost use Rattle.std.specs.Prelude.{◌≡◌, ℕ, ◌%◌, ◌<◌, ◌≤◌, length, slice_set, unsigned_abs};
+ghost use Rattle.std.specs.Prelude.{◌≡◌, ℕ, ◌%◌, ◌<◌, ◌≤◌, length, unsigned_abs};
 ghost use Rattle.tariff.specs.Heads.{sums};
 ghost use Rattle.tariff.specs.Costs.{Bounded};
 ghost use Rattle.ledger.specs.Standings.{account_at, balances, opened};
-ghost use Rattle.ledger.specs.Billing.{billed_account, closed};
+ghost use Rattle.ledger.specs.Billing.{closed};
 ghost use Rattle.ledger.specs.Resettling.{settled};
 
 use crate::account::Account;
@@ -43,21 +43,10 @@ impl Accounts {
         ensures { result ≡ sums costs (balances self.now) }
     {
         let mut pools = [0i64; 13];
-        for component in 0..13 {
-            pools[component] = self.rows[component].pool(costs[component]);
+        for (component, account) in self.rows.iter().enumerate() {
+            pools[component] = account.pool(costs[component]);
         }
         pools
-    }
-
-    /// Closes one account on its charge.
-    fn close_one(&mut self, component: usize, charge: ComponentCharge)
-        requires component { component < 13 }
-        requires long { length self.old.rows ≡ 13 }
-        requires slots { length (account_at self.old component).pools ≡ 6 }
-        ensures { self.new ≡ record { members = self.old.members; first = self.old.first; month = self.old.month; rows = slice_set self.old.rows component (billed_account (self.old.month % 6) charge (account_at self.old component)) } }
-    {
-        let slot = (self.month % 6) as usize;
-        self.rows[component].close(slot, charge.pool, charge.balance);
     }
 
     /// Closes the open month on its charges, and opens the next.
@@ -67,8 +56,9 @@ impl Accounts {
         requires month { self.old.month ≤ 35999 }
         ensures { self.new ≡ closed charges self.old }
     {
-        for component in 0..13 {
-            self.close_one(component, charges[component]);
+        let slot = (self.month % 6) as usize;
+        for (component, account) in self.rows.iter_mut().enumerate() {
+            account.close(slot, charges[component]);
         }
         self.month += 1;
     }
@@ -87,10 +77,6 @@ impl Accounts {
         requires { length self.now.rows ≡ 13 }
         ensures { result ≡ balances self.now }
     {
-        let mut balances = [0i64; 13];
-        for component in 0..13 {
-            balances[component] = self.rows[component].balance;
-        }
-        balances
+        self.rows.map(|account| account.balance)
     }
 }

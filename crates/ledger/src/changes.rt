@@ -37,18 +37,9 @@ fn write_differences(shares: &[i64], lines: &[Line], out: &mut [i64])
     requires cents { all_pass cents_within lines.now ≡ true }
     ensures { out.new ≡ differences shares.now lines.now }
 {
-    for i in 0..shares.len() {
-        out[i] = difference(shares[i], lines[i]);
+    for (i, share) in shares.iter().enumerate() {
+        out[i] = *share - lines[i].cents;
     }
-}
-
-/// A new share less the cents of its line.
-fn difference(share: i64, line: Line) -> i64
-    requires share { unsigned_abs share ≤ 5000000001 }
-    requires cents { unsigned_abs line.cents ≤ 6000000000 }
-    ensures { result ≡ share -ℤ line.cents }
-{
-    share - line.cents
 }
 
 /// The balance less the sum of differences, where it is in range.
@@ -81,12 +72,10 @@ pub(crate) fn find_changes(
     ensures told { answer result ≡ (if all_pass cents_within lines.now && within (balance_left balance shares.now lines.now) then done (balance_left balance shares.now lines.now) else refused 10 layer.Ledger (component + 1)) }
     ensures changes { OnOk result (out.new ≡ differences shares.now lines.now) }
 {
+    let fault = Layer::Ledger.refuses_at(Refusal::Resettled, component as u32 + 1);
     if !cents_within(lines) {
-        return Err(Layer::Ledger.refuses_at(Refusal::Resettled, component as u32 + 1));
+        return Err(fault);
     }
     write_differences(shares, lines, out);
-    match balance_left(balance, out) {
-        Some(left) => Ok(left),
-        None => Err(Layer::Ledger.refuses_at(Refusal::Resettled, component as u32 + 1)),
-    }
+    balance_left(balance, out).ok_or(fault)
 }

@@ -30,8 +30,8 @@ fn read_kind<B: Book>(book: &B, kind: usize, out: &mut [u32]) -> Result<(), Faul
     ensures told { answer result ≡ done tt }
     ensures units { out.new ≡ column (book_rows (B.held book.now) 0 (B.count book.now)) kind }
 {
-    for i in 0..out.len() {
-        out[i] = book.units(kind as u32 + 1, i as u32)?;
+    for (member, units) in out.iter_mut().enumerate() {
+        *units = book.units(kind as u32 + 1, member as u32)?;
     }
     Ok(())
 }
@@ -86,7 +86,7 @@ fn resettle_row<R: Rule, B: Book>(
     share_again(rule, pool, kind_of(component), book, units, fresh)?;
     let left = find_changes(component, balance, fresh, lines, changes)?;
     cells.copy_from_slice(changes);
-    write_lines(units, fresh, lines);
+    write_lines(|i| units[i], fresh, lines);
     Ok(left)
 }
 
