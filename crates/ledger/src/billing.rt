@@ -3,9 +3,8 @@ ghost use Rattle.std.specs.Prelude.{◌≡◌, ℕ, ◌+◌, ◌*◌, ◌≤◌,
 ghost use Rattle.refusal.specs.Answers.{answer_by};
 ghost use Rattle.tariff.specs.Heads.{sums};
 ghost use Rattle.tariff.specs.Costs.{Bounded};
-ghost use Rattle.statement.specs.Readings.{book_rows};
 ghost use Rattle.statement.specs.Charges.{components, cells};
-ghost use Rattle.ledger.specs.Readings.{reading};
+ghost use Rattle.ledger.specs.Readings.{reading_of, rows_read};
 ghost use Rattle.ledger.specs.Files.{lines_of, units_laid, put};
 ghost use Rattle.ledger.specs.Standings.{account_at, balances};
 ghost use Rattle.ledger.specs.Billing.{ranges_rule, bill_check, slot_written};
@@ -34,8 +33,8 @@ fn write_bill<R: Rule, B: Book>(
     requires units { length units.old ≡ B.count book.now }
     requires statement { length statement.old ≡ 13 * B.count book.now }
     requires room { start + 13 * B.count book.now ≤ length file.old }
-    ensures told { answer_by (λ _. tt) result ≡ ranges_rule pools (book_rows (B.held book.now) 0 (B.count book.now)) }
-    ensures done { MatchResult result (λ charges. (charges ≡ components (R.shares rule.now) pools (book_rows (B.held book.now) 0 (B.count book.now)) 13) × (statement.new ≡ cells (R.shares rule.now) pools (book_rows (B.held book.now) 0 (B.count book.now)) 13) × (file.new ≡ put start (lines_of (units_laid (book_rows (B.held book.now) 0 (B.count book.now)) 13) statement.new) file.old)) (λ _. (statement.new ≡ statement.old) × (file.new ≡ file.old)) }
+    ensures told { answer_by (λ _. tt) result ≡ ranges_rule pools (rows_read (reading_of B.Book book.now)) }
+    ensures done { MatchResult result (λ charges. (charges ≡ components (R.shares rule.now) pools (rows_read (reading_of B.Book book.now)) 13) × (statement.new ≡ cells (R.shares rule.now) pools (rows_read (reading_of B.Book book.now)) 13) × (file.new ≡ put start (lines_of (units_laid (rows_read (reading_of B.Book book.now)) 13) statement.new) file.old)) (λ _. (statement.new ≡ statement.old) × (file.new ≡ file.old)) }
 {
     read_book(book, units)?;
     let charges = charge_month(rule, pools, units, statement)?;
@@ -57,8 +56,8 @@ pub(crate) fn charge_book<R: Rule, B: Book>(
     requires long { length accounts.now.rows ≡ 13 }
     requires balances { (c : ℕ) → unsigned_abs (account_at accounts.now c).balance ≤ 4000000000 }
     requires costs { Bounded 12000000000 costs }
-    ensures told { answer_by (λ _. tt) result ≡ bill_check accounts.now (sums costs (balances accounts.now)) (reading (B.month book.now) (B.count book.now) (B.held book.now)) (length file.old) (length statement.old) }
-    ensures done { MatchResult result (λ charges. (charges ≡ components (R.shares rule.now) (sums costs (balances accounts.now)) (book_rows (B.held book.now) 0 (B.count book.now)) 13) × (statement.new ≡ cells (R.shares rule.now) (sums costs (balances accounts.now)) (book_rows (B.held book.now) 0 (B.count book.now)) 13) × (file.new ≡ slot_written accounts.now (reading (B.month book.now) (B.count book.now) (B.held book.now)) statement.new file.old)) (λ _. (statement.new ≡ statement.old) × (file.new ≡ file.old)) }
+    ensures told { answer_by (λ _. tt) result ≡ bill_check accounts.now (sums costs (balances accounts.now)) (reading_of B.Book book.now) (length file.old) (length statement.old) }
+    ensures done { MatchResult result (λ charges. (charges ≡ components (R.shares rule.now) (sums costs (balances accounts.now)) (rows_read (reading_of B.Book book.now)) 13) × (statement.new ≡ cells (R.shares rule.now) (sums costs (balances accounts.now)) (rows_read (reading_of B.Book book.now)) 13) × (file.new ≡ slot_written accounts.now (reading_of B.Book book.now) statement.new file.old)) (λ _. (statement.new ≡ statement.old) × (file.new ≡ file.old)) }
 {
     let members = accounts.members;
     let wanted = 13 * members as usize;

@@ -1,6 +1,6 @@
 use Rattle.std.proofs.Common.{◌+◌, ◌-◌, ◌%◌, ◌≤◌, length, get_or, pos, ap, ◌∙◌, arith, w64, rules}
 use Rattle.std.proofs.lemmas.Int.{to_z-of_z}
-use Rattle.ledger.specs.Readings.{reading}
+use Rattle.ledger.specs.Readings.{reading_of}
 use Rattle.ledger.specs.Files.{row_at}
 use Rattle.ledger.specs.Standings.{account_at}
 use Rattle.ledger.proofs.Resettled.{row_fits, lines_told, lines_done}
@@ -16,7 +16,7 @@ pub returns : goal.returns
 returns g c =
     let a = c.args.accounts.now in
     let book = c.args.book.now in
-    let b = reading (g.B.Book.month book) (g.B.Book.count book) (g.B.Book.held book) in
+    let b = reading_of g.B.Book book in
     let i = c.args.component in
     let month = c.month-month.result in
     let start = c.row_start-start.result in

@@ -3,7 +3,7 @@ use Rattle.refusal.specs.Answers.{Told, done, next, after}
 use Rattle.cents.specs.Cutting.{sum_z}
 use Rattle.tariff.specs.Heads.{sums}
 use Rattle.charges_text.specs.declared.charges.ComponentCharge.{ComponentCharge}
-use Rattle.ledger.specs.Readings.{reading, rows_read}
+use Rattle.ledger.specs.Readings.{reading_of, rows_read}
 use Rattle.ledger.specs.Standings.{standing, balances}
 use Rattle.ledger.specs.Billing.{Left}
 use Rattle.ledger.proofs.Lawful.{LawfulRule}
@@ -19,7 +19,7 @@ pub close-requires : goal.close-requires
 close-requires g c =
     let self = c.args.self.now in
     let book = c.args.book.now in
-    let b = reading (g.B.Book.month book) (g.B.Book.count book) (g.B.Book.held book) in
+    let b = reading_of g.B.Book book in
     let p = bill_passed self.accounts (sums c.costs-costs.result (balances self.accounts)) b (length c.args.file.now) (length c.args.statement.now) (g.met.B.Book.peopled book).0 (g.met.B.Book.peopled book).1 c.in_ok-charges.ensures.told in
     record { long = self.long; slots = self.slots; month = omega (arith, p.month, (g.met.B.Book.dated book).1) }
 
@@ -27,7 +27,7 @@ pub invariant_of-self-2 : goal.invariant_of-self-2
 invariant_of-self-2 g c =
     let self = c.args.self.now in
     let book = c.args.book.now in
-    let b = reading (g.B.Book.month book) (g.B.Book.count book) (g.B.Book.held book) in
+    let b = reading_of g.B.Book book in
     let pools = sums c.costs-costs.result (balances self.accounts) in
     let sh = g.R.Rule.shares self.rule in
     let p = bill_passed self.accounts pools b (length c.args.file.now) (length c.args.statement.now) (g.met.B.Book.peopled book).0 (g.met.B.Book.peopled book).1 c.in_ok-charges.ensures.told in
@@ -51,7 +51,7 @@ returns g c =
     let self = c.args.self.now in
     let a = self.accounts in
     let book = c.args.book.now in
-    let b = reading (g.B.Book.month book) (g.B.Book.count book) (g.B.Book.held book) in
+    let b = reading_of g.B.Book book in
     let sh = g.R.Rule.shares self.rule in
     let cut = cut_by self.sheet in
     let file = c.args.file.now in

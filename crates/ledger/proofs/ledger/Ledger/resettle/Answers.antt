@@ -5,7 +5,7 @@ use Rattle.refusal.specs.Answers.{Told, done, answer, bare, after}
 use Rattle.ledger.specs.declared.account.Account.{Account}
 use Rattle.ledger.specs.declared.accounts.Accounts.{Accounts}
 use Rattle.ledger.specs.declared.line.Line.{Line}
-use Rattle.ledger.specs.Readings.{reading, units_read}
+use Rattle.ledger.specs.Readings.{reading_of, units_read}
 use Rattle.ledger.specs.Standings.{standing, account_at, is_on_file}
 use Rattle.ledger.specs.Billing.{Left, memory_rule}
 use Rattle.ledger.specs.Resettling.{reconciled, lines_at, shares_again, change_rule, settled}
@@ -25,7 +25,7 @@ invariant_of-self-2 g c =
     let left = c.in_ok-left.left in
     let z = to_z-of_z w64 left (search rules) in
     let book = c.args.book.now in
-    let b = reading (g.B.Book.month book) (g.B.Book.count book) (g.B.Book.held book) in
+    let b = reading_of g.B.Book book in
     let i = c.args.component - 1 in
     let small = (change_passed (i + 1) (units_read b i) (shares_again (g.R.Rule.shares self.rule) a b i) (account_at a i).balance (lines_at a c.args.file.now b i) left c.in_ok-left.ensures.told).3 in
     let e = c.settle.ensures ∙ ap (λ (x : ℤ). settled (c.args.component - 1) x a) z in
@@ -46,7 +46,7 @@ returns g c =
     let file = c.args.file.now in
     let memory = c.args.statement.now in
     let book = c.args.book.now in
-    let b = reading (g.B.Book.month book) (g.B.Book.count book) (g.B.Book.held book) in
+    let b = reading_of g.B.Book book in
     let sh = g.R.Rule.shares self.rule in
     let s = standing_of self file in
     let component = c.args.component in
@@ -82,7 +82,7 @@ returns-in_err-left g c =
     let file = c.args.file.now in
     let memory = c.args.statement.now in
     let book = c.args.book.now in
-    let b = reading (g.B.Book.month book) (g.B.Book.count book) (g.B.Book.held book) in
+    let b = reading_of g.B.Book book in
     let sh = g.R.Rule.shares self.rule in
     let s = standing_of self file in
     let component = c.args.component in
