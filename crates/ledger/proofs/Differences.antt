@@ -15,6 +15,7 @@ use Rattle.ledger.specs.declared.line.Line.{Line}
 use Rattle.ledger.specs.Files.{no_line}
 use Rattle.ledger.specs.Resettling.{differences, cents_within, balance_left, change_rule}
 use Rattle.ledger.proofs.Laid.{column_at}
+use Rattle.ledger.proofs.Passed.{kept}
 
 row_at : (held : ℕ → ℕ → ℕ) (m k : ℕ) → k < 7 → get_or (book_row held m) k 0 ≡ held (k + 1) m
 row_at held m zero l = refl
@@ -84,3 +85,12 @@ units_refuse component kind rows shares balance lines n l p ek e =
     split : (b : Bool) (rest : Told ℤ) (i : ℕ) → next {S = Unit {0}} (cond b (done tt) (refused 8 layer.Ledger i)) (λ _. rest) ≡ cond b rest (refused 8 layer.Ledger i)
     split true rest i = refl
     split false rest i = refl
+
+-- with units in range, the change decides
+pub change_told : (component kind : ℕ) (rows : List (List ℕ)) (shares : List ℤ) (balance : ℤ) (lines : List Line) (t : Told ℤ) → kind ≡ kind_of component
+    → ◌≡◌ {A = Told (Unit {0})} (done tt) (cond (leb (sum (column rows kind)) 2000000000) (done tt) (refused 8 layer.Ledger (kind + 1)))
+    → t ≡ cond (all_pass cents_within lines && within (balance_left balance shares lines)) (done (balance_left balance shares lines)) (refused 10 layer.Ledger (component + 1))
+    → t ≡ change_rule (component + 1) (column rows (kind_of component)) shares balance lines
+change_told component kind rows shares balance lines t ek d h =
+    let k = kept (leb (sum (column rows kind)) 2000000000) tt (done tt) 8 layer.Ledger (kind + 1) d in
+    h ∙ sym (cond-true (leb (sum (column rows (kind_of component))) 2000000000) _ (refused 8 layer.Ledger (kind_of (component + 1 - 1) + 1)) (ap (λ (i : ℕ). leb (sum (column rows i)) 2000000000) (sym ek) ∙ k.0))

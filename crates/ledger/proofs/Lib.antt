@@ -12,3 +12,4 @@ pub mod Lawful
 pub mod BookingKeeps
 pub mod BillKeeps
 pub mod ResettlementKeeps
+pub mod Returned

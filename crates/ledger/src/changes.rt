@@ -1,5 +1,5 @@
 //! What a resettlement changes: new shares less the cents billed to date, and the balance left.
-ghost use Rattle.std.specs.Prelude.{◌≡◌, ℕ, ◌+◌, ◌<◌, ◌≤◌, true, ◌&&◌, length, pos, ◌-ℤ◌, if◌then◌else◌, Some, None, sum, OnOk, slice_index_or, unsigned_abs};
+ghost use Rattle.std.specs.Prelude.{◌≡◌, ℕ, ◌+◌, ◌≤◌, true, ◌&&◌, length, pos, ◌-ℤ◌, if◌then◌else◌, Some, None, sum, OnOk, slice_index_or, unsigned_abs};
 ghost use Rattle.cents.specs.Cutting.{sum_z};
 ghost use Rattle.refusal.specs.Answers.{answer, done, refused};
 ghost use Rattle.refusal.specs.declared.Layer.TheVariants as layer;
@@ -8,6 +8,7 @@ ghost use Rattle.tariff.specs.Heads.{within};
 ghost use Rattle.ledger.specs.Resettling.{cents_within, differences, balance_left};
 
 use crate::line::Line;
+use crate::resettlement::Resettlement;
 use cents::totals::sum_of;
 use refusal::{Fault, Layer, Refusal};
 
@@ -57,25 +58,22 @@ fn balance_left(balance: i64, changes: &[i64]) -> Option<i64>
 
 /// The differences of a component, and the balance that they leave.
 pub(crate) fn find_changes(
-    component: usize,
-    balance: i64,
+    row: Resettlement,
     shares: &[i64],
     lines: &[Line],
     out: &mut [i64],
 ) -> Result<i64, Fault>
     requires few { length shares.now ≤ 200 }
-    requires component { component < 13 }
-    requires balance { unsigned_abs balance ≤ 4000000000 }
     requires lines { length lines.now ≡ length shares.now }
     requires out { length out.old ≡ length shares.now }
     requires shares { (m : ℕ) → unsigned_abs (slice_index_or shares.now m (pos 0)) ≤ 5000000001 }
-    ensures told { answer result ≡ (if all_pass cents_within lines.now && within (balance_left balance shares.now lines.now) then done (balance_left balance shares.now lines.now) else refused 10 layer.Ledger (component + 1)) }
+    ensures told { answer result ≡ (if all_pass cents_within lines.now && within (balance_left row.balance shares.now lines.now) then done (balance_left row.balance shares.now lines.now) else refused 10 layer.Ledger (row.component + 1)) }
     ensures changes { OnOk result (out.new ≡ differences shares.now lines.now) }
 {
-    let fault = Layer::Ledger.refuses_at(Refusal::Resettled, component as u32 + 1);
+    let fault = Layer::Ledger.refuses_at(Refusal::Resettled, row.component as u32 + 1);
     if !cents_within(lines) {
         return Err(fault);
     }
     write_differences(shares, lines, out);
-    balance_left(balance, out).ok_or(fault)
+    balance_left(row.balance, out).ok_or(fault)
 }

@@ -12,6 +12,7 @@ use crate::accounts::Accounts;
 use crate::changes::find_changes;
 use crate::checks::row_start;
 use crate::line::Line;
+use crate::resettlement::Resettlement;
 use crate::rows::write_lines;
 use book::book::Book;
 use refusal::{Fault, Layer, Refusal};
@@ -58,70 +59,31 @@ fn share_again<R: Rule, B: Book>(
     Ok(())
 }
 
-/// Resettles one row of lines, in memory that has a place for each member: units, new shares and
-/// differences. Tells the balance that is left; refused, lines and cells stay.
+/// Resettles one row of lines, and tells the balance that is left; refused, lines and cells stay.
 fn resettle_row<R: Rule, B: Book>(
     rule: &R,
-    pool: i64,
-    balance: i64,
-    component: usize,
-    book: &B,
-    units: &mut [u32],
-    fresh: &mut [i64],
-    changes: &mut [i64],
-    lines: &mut [Line],
-    cells: &mut [i64],
-) -> Result<i64, Fault>
-    requires component { component < 13 }
-    requires balance { unsigned_abs balance ≤ 4000000000 }
-    requires units { length units.old ≡ B.count book.now }
-    requires fresh { length fresh.old ≡ B.count book.now }
-    requires changes { length changes.old ≡ B.count book.now }
-    requires lines { length lines.old ≡ B.count book.now }
-    requires cells { length cells.old ≡ B.count book.now }
-    ensures told { answer result ≡ change_rule (component + 1) (units_read (reading_of B.Book book.now) component) (R.shares rule.now pool (units_read (reading_of B.Book book.now) component)) balance lines.old }
-    ensures done { MatchResult result (λ _. (lines.new ≡ lines_of (units_read (reading_of B.Book book.now) component) (R.shares rule.now pool (units_read (reading_of B.Book book.now) component))) × (cells.new ≡ differences (R.shares rule.now pool (units_read (reading_of B.Book book.now) component)) lines.old)) (λ _. (lines.new ≡ lines.old) × (cells.new ≡ cells.old)) }
-{
-    share_again(rule, pool, kind_of(component), book, units, fresh)?;
-    let left = find_changes(component, balance, fresh, lines, changes)?;
-    cells.copy_from_slice(changes);
-    write_lines(|i| units[i], fresh, lines);
-    Ok(left)
-}
-
-/// The same in memory of its own.
-fn resettle_members<R: Rule, B: Book>(
-    rule: &R,
-    pool: i64,
-    balance: i64,
-    component: usize,
+    row: Resettlement,
     book: &B,
     lines: &mut [Line],
     cells: &mut [i64],
 ) -> Result<i64, Fault>
-    requires component { component < 13 }
-    requires balance { unsigned_abs balance ≤ 4000000000 }
     requires lines { length lines.old ≡ B.count book.now }
     requires cells { length cells.old ≡ B.count book.now }
-    ensures told { answer result ≡ change_rule (component + 1) (units_read (reading_of B.Book book.now) component) (R.shares rule.now pool (units_read (reading_of B.Book book.now) component)) balance lines.old }
-    ensures done { MatchResult result (λ _. (lines.new ≡ lines_of (units_read (reading_of B.Book book.now) component) (R.shares rule.now pool (units_read (reading_of B.Book book.now) component))) × (cells.new ≡ differences (R.shares rule.now pool (units_read (reading_of B.Book book.now) component)) lines.old)) (λ _. (lines.new ≡ lines.old) × (cells.new ≡ cells.old)) }
+    ensures told { answer result ≡ change_rule (row.component + 1) (units_read (reading_of B.Book book.now) row.component) (R.shares rule.now row.pool (units_read (reading_of B.Book book.now) row.component)) row.balance lines.old }
+    ensures done { MatchResult result (λ _. (lines.new ≡ lines_of (units_read (reading_of B.Book book.now) row.component) (R.shares rule.now row.pool (units_read (reading_of B.Book book.now) row.component))) × (cells.new ≡ differences (R.shares rule.now row.pool (units_read (reading_of B.Book book.now) row.component)) lines.old)) (λ _. (lines.new ≡ lines.old) × (cells.new ≡ cells.old)) }
 {
     let members = cells.len();
     let mut units = [0u32; 200];
+    let units = &mut units[..members];
     let mut fresh = [0i64; 200];
+    let fresh = &mut fresh[..members];
     let mut changes = [0i64; 200];
-    resettle_row(
-        rule,
-        pool,
-        balance,
-        component,
-        book,
-        &mut units[0..members],
-        &mut fresh[0..members],
-        &mut changes[0..members],
-        lines,
-        cells,
-    )
+    let changes = &mut changes[..members];
+    share_again(rule, row.pool, kind_of(row.component), book, units, fresh)?;
+    let left = find_changes(row, fresh, lines, changes)?;
+    cells.copy_from_slice(changes);
+    write_lines(|i| units[i], fresh, lines);
+    Ok(left)
 }
 
 /// Resettles the component at a place for the book's month, which is on file.
@@ -146,9 +108,12 @@ pub(crate) fn resettle_lines<R: Rule, B: Book>(
 {
     let month = book.month();
     let account = accounts.rows[component];
-    let pool = account.pools[(month % 6) as usize];
+    let row = Resettlement {
+        component,
+        pool: account.pools[(month % 6) as usize],
+        balance: account.balance,
+    };
     let start = row_start(accounts.members, month, component);
     let end = start + accounts.members as usize;
-    let row = &mut file[start..end];
-    resettle_members(rule, pool, account.balance, component, book, row, statement)
+    resettle_row(rule, row, book, &mut file[start..end], statement)
 }

@@ -6,8 +6,8 @@ use Rattle.ledger.specs.Standings.{account_at}
 use Rattle.ledger.proofs.Resettled.{row_fits, lines_told, lines_done}
 use Rattle.ledger.proofs.resettling.resettle_lines.Goals as goal
 
-pub slice_bounds-row-end : goal.slice_bounds-row-end
-slice_bounds-row-end g c =
+pub slice_bounds-resettle_row-end : goal.slice_bounds-resettle_row-end
+slice_bounds-resettle_row-end g c =
     let a = c.args.accounts.now in
     let p : c.row_start-start.result + a.members ≤ length c.args.file.now = omega (arith, row_fits a.members c.month-month.result c.args.component c.requires.component, c.row_start-start.ensures, c.requires.file) in
     p
@@ -27,6 +27,6 @@ returns g c =
     let eb = to_z-of_z w64 (account_at a i).balance (search rules) in
     let es = c.row_start-start.ensures ∙ ap (λ m. row_at a.members m i) em in
     record {
-      told = lines_told sh a c.args.file.now b i _ _ start k ep eb es (omega arith) _ c.resettle_members.ensures.told;
-      done = lines_done sh a c.args.file.now b i _ _ start k ep eb es (omega arith) c.resettle_members.result c.resettle_members.new.lines c.args.statement.now c.resettle_members.new.cells (omega (arith, c.resettle_members.auto.lines)) c.resettle_members.ensures.done;
+      told = lines_told sh a c.args.file.now b i _ _ start k ep eb es (omega arith) _ c.resettle_row.ensures.told;
+      done = lines_done sh a c.args.file.now b i _ _ start k ep eb es (omega arith) c.resettle_row.result c.resettle_row.new.lines c.args.statement.now c.resettle_row.new.cells (omega (arith, c.resettle_row.auto.lines)) c.resettle_row.ensures.done;
     }
