@@ -24,7 +24,6 @@ impl Account {
     /// Puts the pool of a charge in its month's slot, and what is left of it in the balance.
     pub(crate) fn close(&mut self, slot: usize, charge: ComponentCharge)
         requires slot { slot < 6 }
-        requires long { length self.old.pools ≡ 6 }
         ensures { self.new ≡ billed_account slot charge self.old }
     {
         self.pools[slot] = charge.pool;

@@ -37,7 +37,6 @@ impl Accounts {
 
     /// The pools of a bill, from the components' costs.
     pub(crate) fn pools(&self, costs: [i64; 13]) -> [i64; 13]
-        requires long { length self.now.rows ≡ 13 }
         requires balances { (c : ℕ) → unsigned_abs (account_at self.now c).balance ≤ 4000000000 }
         requires costs { Bounded 12000000000 costs }
         ensures { result ≡ sums costs (balances self.now) }
@@ -51,8 +50,6 @@ impl Accounts {
 
     /// Closes the open month on its charges, and opens the next.
     pub(crate) fn close(&mut self, charges: [ComponentCharge; 13])
-        requires long { length self.old.rows ≡ 13 }
-        requires slots { (c : ℕ) → c < 13 → length (account_at self.old c).pools ≡ 6 }
         requires month { self.old.month ≤ 35999 }
         ensures { self.new ≡ closed charges self.old }
     {
@@ -66,7 +63,6 @@ impl Accounts {
     /// Sets one account's balance.
     pub(crate) fn settle(&mut self, component: usize, balance: i64)
         requires component { component < 13 }
-        requires long { length self.old.rows ≡ 13 }
         ensures { self.new ≡ settled component balance self.old }
     {
         self.rows[component].settle(balance);
@@ -74,7 +70,6 @@ impl Accounts {
 
     /// The thirteen balances.
     pub(crate) fn balances(&self) -> [i64; 13]
-        requires { length self.now.rows ≡ 13 }
         ensures { result ≡ balances self.now }
     {
         self.rows.map(|account| account.balance)

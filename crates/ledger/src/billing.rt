@@ -53,7 +53,6 @@ pub(crate) fn charge_book<R: Rule, B: Book>(
     statement: &mut [i64],
 ) -> Result<[ComponentCharge; 13], Fault>
     requires members { accounts.now.members ≤ 200 }
-    requires long { length accounts.now.rows ≡ 13 }
     requires balances { (c : ℕ) → unsigned_abs (account_at accounts.now c).balance ≤ 4000000000 }
     requires costs { Bounded 12000000000 costs }
     ensures told { answer_by (λ _. tt) result ≡ bill_check accounts.now (sums costs (balances accounts.now)) (reading_of B.Book book.now) (length file.old) (length statement.old) }

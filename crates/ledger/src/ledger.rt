@@ -22,7 +22,6 @@ pub struct Ledger<R: Rule> {
     accounts: Accounts,
     ghost peopled: { (1 ≤ accounts.members) × (accounts.members ≤ 200) },
     ghost dated: { (24277 ≤ accounts.first) × (accounts.first ≤ accounts.month) × (accounts.month ≤ 36000) },
-    ghost long: { length accounts.rows ≡ 13 },
     ghost slots: { (c : ℕ) → c < 13 → length (account_at accounts c).pools ≡ 6 },
     ghost small: { (c : ℕ) → unsigned_abs (account_at accounts c).balance ≤ 4000000000 },
 }

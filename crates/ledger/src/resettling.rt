@@ -100,8 +100,6 @@ pub(crate) fn resettle_lines<R: Rule, B: Book>(
     requires count { B.count book.now ≡ accounts.now.members }
     requires file { length file.old ≡ 78 * accounts.now.members }
     requires statement { length statement.old ≡ accounts.now.members }
-    requires long { length accounts.now.rows ≡ 13 }
-    requires slots { length (account_at accounts.now component).pools ≡ 6 }
     requires balance { unsigned_abs (account_at accounts.now component).balance ≤ 4000000000 }
     ensures told { answer result ≡ change_rule (component + 1) (units_read (reading_of B.Book book.now) component) (shares_again (R.shares rule.now) accounts.now (reading_of B.Book book.now) component) (account_at accounts.now component).balance (lines_at accounts.now file.old (reading_of B.Book book.now) component) }
     ensures done { MatchResult result (λ _. (file.new ≡ put (row_at accounts.now.members (B.month book.now) component) (lines_of (units_read (reading_of B.Book book.now) component) (shares_again (R.shares rule.now) accounts.now (reading_of B.Book book.now) component)) file.old) × (statement.new ≡ differences (shares_again (R.shares rule.now) accounts.now (reading_of B.Book book.now) component) (lines_at accounts.now file.old (reading_of B.Book book.now) component))) (λ _. (file.new ≡ file.old) × (statement.new ≡ statement.old)) }

@@ -12,7 +12,7 @@ use Rattle.ledger.proofs.Billed.{bill_done, bill_charges, bill_cells, bill_stand
 use Rattle.ledger.proofs.BillKeeps.{bill_keeps}
 use Rattle.ledger.proofs.Closed.{no_charge}
 use Rattle.ledger.proofs.Passed.{bill_passed, rows_length}
-use Rattle.ledger.proofs.Rests.{components_length, closed_long, closed_slots, closed_small, rests_small}
+use Rattle.ledger.proofs.Rests.{components_length, closed_slots, closed_small, rests_small}
 use Rattle.ledger.proofs.ledger.Ledger.bill.Goals as goal
 
 pub close-requires : goal.close-requires
@@ -21,7 +21,7 @@ close-requires g c =
     let book = c.args.book.now in
     let b = reading_of g.B.Book book in
     let p = bill_passed self.accounts (sums c.costs-costs.result (balances self.accounts)) b (length c.args.file.now) (length c.args.statement.now) (g.met.B.Book.peopled book).0 (g.met.B.Book.peopled book).1 c.in_ok-charges.ensures.told in
-    record { long = self.long; slots = self.slots; month = omega (arith, p.month, (g.met.B.Book.dated book).1) }
+    record { month = omega (arith, p.month, (g.met.B.Book.dated book).1) }
 
 pub invariant_of-self-2 : goal.invariant_of-self-2
 invariant_of-self-2 g c =
@@ -40,9 +40,8 @@ invariant_of-self-2 g c =
     record {
       peopled = (self.peopled.0, self.peopled.1);
       dated = (self.dated.0, omega (arith, self.dated.1), omega (arith, p.month, (g.met.B.Book.dated book).1));
-      long = closed_long charges self.accounts lc self.long;
-      slots = closed_slots charges self.accounts lc self.long self.slots;
-      small = closed_small charges self.accounts lc self.long 4000000000 small;
+      slots = closed_slots charges self.accounts lc (search rules) self.slots;
+      small = closed_small charges self.accounts lc (search rules) 4000000000 small;
     }
     )
 
@@ -76,5 +75,5 @@ returns g c =
       standing = stands;
       cells = cells;
       same = (refl, refl);
-      law = λ h k. bill_keeps (terms_of g.R.Rule.shares g.R.Rule.step self) rule h s (standing c.zero-self.result.amounts c.close.new.self c.charge_book.new.file) b memory c.charge_book.new.statement (Ok charges) (g.met.B.Book.peopled book).0 (g.met.B.Book.peopled book).1 whole thirteen self.long self.slots told stands cells k;
+      law = λ h k. bill_keeps (terms_of g.R.Rule.shares g.R.Rule.step self) rule h s (standing c.zero-self.result.amounts c.close.new.self c.charge_book.new.file) b memory c.charge_book.new.statement (Ok charges) (g.met.B.Book.peopled book).0 (g.met.B.Book.peopled book).1 whole thirteen (search rules) self.slots told stands cells k;
     }

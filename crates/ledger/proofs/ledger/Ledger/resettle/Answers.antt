@@ -1,5 +1,4 @@
 use Rattle.std.proofs.Common.{◌≡◌, ◌+◌, ◌-◌, ◌≤◌, true, List, length, ℤ, nat_abs, Ok, Err, sym, refl, ap, ◌∙◌, w64, rules}
-use Rattle.std.proofs.lemmas.List.{length-set}
 use Rattle.std.proofs.lemmas.Int.{to_z-of_z}
 use Rattle.refusal.specs.Answers.{done, answer}
 use Rattle.ledger.specs.declared.account.Account.{Account}
@@ -32,9 +31,8 @@ invariant_of-self-2 g c =
     record {
       peopled = (self.peopled.0, self.peopled.1);
       dated = (self.dated.0, self.dated.1, self.dated.2);
-      long = length-set a.rows (c.args.component - 1) _ ∙ self.long;
-      slots = λ d l. settled_all (c.args.component - 1) left a p.0 self.long (λ (x : Account). length x.pools ≡ 6) (self.slots (c.args.component - 1) p.0) d (self.slots d l);
-      small = λ d. settled_all (c.args.component - 1) left a p.0 self.long (λ (x : Account). nat_abs x.balance ≤ 4000000000) small d (self.small d);
+      slots = λ d l. settled_all (c.args.component - 1) left a p.0 (search rules) (λ (x : Account). length x.pools ≡ 6) (self.slots (c.args.component - 1) p.0) d (self.slots d l);
+      small = λ d. settled_all (c.args.component - 1) left a p.0 (search rules) (λ (x : Account). nat_abs x.balance ≤ 4000000000) small d (self.small d);
     }
     )
 
@@ -50,7 +48,7 @@ returns g c =
     let e = c.settle.ensures ∙ ap (λ (x : ℤ). settled i x a) (to_z-of_z w64 left (search rules)) in
     let q = c.in_ok-left.ensures.done in
     let stands = ap (λ (x : Accounts). standing self.heads.amounts x c.resettle_lines.new.file) e ∙ ap (λ (f : List Line). standing self.heads.amounts (settled i left a) f) q.0 in
-    let p = returned (terms_of g.R.Rule.shares g.R.Rule.step self) rule (standing_of self file) b c.args.component c.args.statement.now self.long _ _ c.if-not-is_reconciled.ensures c.in_ok-check_memory.ensures c.if-not-is_on_file.ensures c.members.ensures c.month.ensures (done left) (standing self.heads.amounts c.settle.new.self c.resettle_lines.new.file) c.resettle_lines.new.statement (Ok tt) c.in_ok-left.ensures.told refl stands q.1 in
+    let p = returned (terms_of g.R.Rule.shares g.R.Rule.step self) rule (standing_of self file) b c.args.component c.args.statement.now (search rules) _ _ c.if-not-is_reconciled.ensures c.in_ok-check_memory.ensures c.if-not-is_on_file.ensures c.members.ensures c.month.ensures (done left) (standing self.heads.amounts c.settle.new.self c.resettle_lines.new.file) c.resettle_lines.new.statement (Ok tt) c.in_ok-left.ensures.told refl stands q.1 in
     record { told = p.told; standing = p.stands; cells = p.cells; same = (refl, refl); law = p.law }
 
 pub returns-in_err-left : goal.returns-in_err-left
@@ -64,5 +62,5 @@ returns-in_err-left g c =
     let fault = c.in_err-left.field-0.0 in
     let q = c.in_err-left.ensures.done in
     let stands = ap (λ (f : List Line). standing self.heads.amounts a f) q.0 in
-    let p = returned (terms_of g.R.Rule.shares g.R.Rule.step self) rule (standing_of self file) b c.args.component c.args.statement.now self.long _ _ c.if-not-is_reconciled.ensures c.in_ok-check_memory.ensures c.if-not-is_on_file.ensures c.members.ensures c.month.ensures (answer {T = ℤ} (Err fault)) (standing self.heads.amounts a c.resettle_lines.new.file) c.resettle_lines.new.statement (Err fault) c.in_err-left.ensures.told refl stands q.1 in
+    let p = returned (terms_of g.R.Rule.shares g.R.Rule.step self) rule (standing_of self file) b c.args.component c.args.statement.now (search rules) _ _ c.if-not-is_reconciled.ensures c.in_ok-check_memory.ensures c.if-not-is_on_file.ensures c.members.ensures c.month.ensures (answer {T = ℤ} (Err fault)) (standing self.heads.amounts a c.resettle_lines.new.file) c.resettle_lines.new.statement (Err fault) c.in_err-left.ensures.told refl stands q.1 in
     rw (f.1, f.2) (record { told = p.told; standing = p.stands; cells = p.cells; same = (refl, refl); law = p.law })
