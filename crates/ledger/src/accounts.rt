@@ -2,7 +2,8 @@
 ghost use Rattle.std.specs.Prelude.{◌≡◌, ℕ, ◌%◌, ◌<◌, ◌≤◌, length, unsigned_abs};
 ghost use Rattle.tariff.specs.Heads.{sums};
 ghost use Rattle.tariff.specs.Costs.{Bounded};
-ghost use Rattle.ledger.specs.Standings.{account_at, balances, opened};
+ghost use Rattle.ledger.specs.Files.{row_at};
+ghost use Rattle.ledger.specs.Standings.{account_at, balances, is_on_file, opened};
 ghost use Rattle.ledger.specs.Billing.{closed};
 ghost use Rattle.ledger.specs.Resettling.{settled};
 
@@ -33,6 +34,21 @@ impl Accounts {
             month: first,
             rows: [account; 13],
         }
+    }
+
+    /// Whether a month is one of the six latest billed.
+    pub(crate) fn is_on_file(&self, month: u32) -> bool
+        ensures { result ≡ is_on_file self.now month }
+    {
+        self.first <= month && month < self.month && self.month - month <= 6
+    }
+
+    /// Where the row of a month and of the component at a place begins in the file.
+    pub(crate) fn row_start(&self, month: u32, component: usize) -> usize
+        requires { component < 13 }
+        ensures { result ≡ row_at self.now.members month component }
+    {
+        ((month % 6) as usize * 13 + component) * self.members as usize
     }
 
     /// The pools of a bill, from the components' costs.

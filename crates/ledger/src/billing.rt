@@ -10,7 +10,7 @@ ghost use Rattle.ledger.specs.Standings.{account_at, balances};
 ghost use Rattle.ledger.specs.Billing.{ranges_rule, bill_check, slot_written};
 
 use crate::accounts::Accounts;
-use crate::checks::{check_memory, row_start};
+use crate::checks::check_memory;
 use crate::line::Line;
 use crate::rows::write_slot;
 use book::book::Book;
@@ -65,7 +65,7 @@ pub(crate) fn charge_book<R: Rule, B: Book>(
         return Err(Layer::Ledger.refuses(Refusal::Month));
     }
     let pools = accounts.pools(costs);
-    let start = row_start(members, accounts.month, 0);
+    let start = accounts.row_start(accounts.month, 0);
     let mut units = [[0u32; 7]; 200];
     write_bill(
         rule,

@@ -10,7 +10,6 @@ ghost use Rattle.ledger.specs.Resettling.{differences, lines_at, shares_again, c
 
 use crate::accounts::Accounts;
 use crate::changes::find_changes;
-use crate::checks::row_start;
 use crate::line::Line;
 use crate::resettlement::Resettlement;
 use crate::rows::write_lines;
@@ -111,7 +110,7 @@ pub(crate) fn resettle_lines<R: Rule, B: Book>(
         pool: account.pools[(month % 6) as usize],
         balance: account.balance,
     };
-    let start = row_start(accounts.members, month, component);
+    let start = accounts.row_start(month, component);
     let end = start + accounts.members as usize;
     resettle_row(rule, row, book, &mut file[start..end], statement)
 }

@@ -1,14 +1,12 @@
 //! Resettling a month on file.
-ghost use Rattle.std.specs.Prelude.{◌≡◌, ◌-◌, ◌&&◌, ◌||◌, ◌∷◌, MatchResult};
+ghost use Rattle.std.specs.Prelude.{◌≡◌, ◌-◌, ◌||◌, ◌∷◌, MatchResult};
 ghost use Rattle.refusal.specs.Answers.{answer, bare, after};
 ghost use Rattle.ledger.specs.Readings.{reading_of};
-ghost use Rattle.ledger.specs.Standings.{is_on_file};
 ghost use Rattle.ledger.specs.Resettling.{reconciled};
 ghost use Rattle.ledger.specs.Histories.{History, resettled};
 ghost use Rattle.ledger.specs.Kept.{Kept};
 ghost use Rattle.ledger.specs.Ledgers.{resettling_of, standing_of, terms_of};
 
-use crate::accounts::Accounts;
 use crate::checks::check_memory;
 use crate::ledger::Ledger;
 use crate::line::Line;
@@ -22,13 +20,6 @@ fn is_reconciled(component: u32) -> bool
     ensures { result ≡ reconciled component }
 {
     component == 8 || component == 11
-}
-
-/// Whether a month is one of the six latest billed.
-fn is_on_file(accounts: &Accounts, month: u32) -> bool
-    ensures { result ≡ is_on_file accounts.now month }
-{
-    accounts.first <= month && month < accounts.month && accounts.month - month <= 6
 }
 
 impl<R: Rule> Ledger<R> {
@@ -58,7 +49,7 @@ impl<R: Rule> Ledger<R> {
             members as usize,
             book.members(),
         )?;
-        if !is_on_file(&self.accounts, book.month()) {
+        if !self.accounts.is_on_file(book.month()) {
             return Err(Layer::Ledger.refuses(Refusal::Month));
         }
         let place = component as usize - 1;
