@@ -70,22 +70,6 @@ differences_small (s ∷ ss) (l ∷ ls) e hs hc =
 pub left_told : (left x : ℤ) → x ≡ left → nat_abs left ≤ 4000000000 → Some x ≡ cond (within left) (Some left) None
 left_told left x e h = ap Some e ∙ sym (cond-true (within left) (Some left) None (le-leb (nat_abs left) 4000000000 h))
 
--- too many units refuse the change
-pub units_refuse : (component kind : ℕ) (rows : List (List ℕ)) (shares : List ℤ) (balance : ℤ) (lines : List Line) (n : ℕ) (l : Layer) (p : ℕ) → kind ≡ kind_of component
-    → ◌≡◌ {A = Told (Unit {0})} (refused n l p) (cond (leb (sum (column rows kind)) 2000000000) (done tt) (refused 8 layer.Ledger (kind + 1)))
-    → ◌≡◌ {A = Told ℤ} (refused n l p) (change_rule (component + 1) (column rows (kind_of component)) shares balance lines)
-units_refuse component kind rows shares balance lines n l p ek e =
-    let k : kind ≡ kind_of (component + 1 - 1) = ek ∙ ap kind_of {x = component} {y = component + 1 - 1} (omega arith) in
-    let rest : Told ℤ = cond (all_pass cents_within lines && within (balance_left balance shares lines)) (done (balance_left balance shares lines)) (refused 10 layer.Ledger (component + 1)) in
-    ap (λ (t : Told (Unit {0})). next t (λ _. rest)) e
-    ∙ split (leb (sum (column rows kind)) 2000000000) rest (kind + 1)
-    ∙ ap (λ (i : ℕ). cond (leb (sum (column rows i)) 2000000000) rest (refused 8 layer.Ledger (kind + 1))) ek
-    ∙ ap (λ (i : ℕ). cond (leb (sum (column rows (kind_of component))) 2000000000) rest (refused 8 layer.Ledger (i + 1))) k
-  where
-    split : (b : Bool) (rest : Told ℤ) (i : ℕ) → next {S = Unit {0}} (cond b (done tt) (refused 8 layer.Ledger i)) (λ _. rest) ≡ cond b rest (refused 8 layer.Ledger i)
-    split true rest i = refl
-    split false rest i = refl
-
 -- with units in range, the change decides
 pub change_told : (component kind : ℕ) (rows : List (List ℕ)) (shares : List ℤ) (balance : ℤ) (lines : List Line) (t : Told ℤ) → kind ≡ kind_of component
     → ◌≡◌ {A = Told (Unit {0})} (done tt) (cond (leb (sum (column rows kind)) 2000000000) (done tt) (refused 8 layer.Ledger (kind + 1)))

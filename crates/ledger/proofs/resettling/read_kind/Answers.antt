@@ -1,4 +1,4 @@
-use Rattle.std.proofs.Common.{◌+◌, sym, refl, ◌∙◌, arith}
+use Rattle.std.proofs.Common.{◌+◌, sym, ◌∙◌, arith}
 use Rattle.statement.specs.Columns.{column}
 use Rattle.statement.specs.Readings.{book_rows}
 use Rattle.ledger.proofs.Overwritten.{front_more, front_end}
@@ -18,12 +18,9 @@ loop-member-preserved g c =
     front_more 0 (column rows k) c.loop-member.out i _ (omega (arith, column_length rows k, rows_length held 0 count, c.requires.long)) (omega arith)
     (u ∙ sym (kind_at held count k i c.requires.kind (omega (arith, c.requires.long)))) c.loop-member.invariant
 
-pub returns : goal.returns
-returns g c =
+pub returns-clause-units : goal.returns-clause-units
+returns-clause-units g c =
     let held = g.B.Book.held c.args.book.now in
     let count = g.B.Book.count c.args.book.now in
     let rows = book_rows held 0 count in
-    record {
-      told = refl;
-      units = front_end 0 (column rows c.args.kind) c.loop-member.out c.loop-member.member (omega (arith, column_length rows c.args.kind, rows_length held 0 count, c.requires.long)) (omega arith) c.loop-member.invariant;
-    }
+    front_end 0 (column rows c.args.kind) c.loop-member.out c.loop-member.member (omega (arith, column_length rows c.args.kind, rows_length held 0 count, c.requires.long)) (omega arith) c.loop-member.invariant

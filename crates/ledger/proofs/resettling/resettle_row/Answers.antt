@@ -4,20 +4,8 @@ use Rattle.std.proofs.lemmas.Int.{to_z-of_z}
 use Rattle.sharing.proofs.Lawful.{share_small}
 use Rattle.statement.specs.Columns.{kind_of, column}
 use Rattle.ledger.specs.Readings.{reading_of, rows_read}
-use Rattle.ledger.proofs.Differences.{units_refuse, change_told}
+use Rattle.ledger.proofs.Differences.{change_told}
 use Rattle.ledger.proofs.resettling.resettle_row.Goals as goal
-
-pub returns-in_err-share_again : goal.returns-in_err-share_again
-returns-in_err-share_again g c =
-    let p = err_from_is_err_and c.from_residual.result c.from_residual.ensures.1 in
-    let rows = rows_read (reading_of g.B.Book c.args.book.now) in
-    let e = c.kind_of.ensures.value in
-    let t = c.in_err-share_again.ensures.told in
-    let us = column rows (kind_of c.args.row.component) in
-    rw (p.1, p.2) (record {
-      told = units_refuse c.args.row.component c.kind_of.result rows (g.R.Rule.shares c.args.rule.now c.args.row.pool us) c.args.row.balance c.args.lines.now _ _ _ e t;
-      done = (refl, refl);
-    })
 
 pub find_changes-requires-clause-shares : goal.find_changes-requires-clause-shares
 find_changes-requires-clause-shares g c =
