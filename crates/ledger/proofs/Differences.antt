@@ -66,10 +66,6 @@ differences_small (s ∷ ss) (l ∷ ls) e hs hc =
     let i = differences_small ss ls (omega arith) (λ m. hs (suc m)) p.1 in
     omega (arith, ints, c, hs 0, i)
 
--- a balance that is in range is told
-pub left_told : (left x : ℤ) → x ≡ left → nat_abs left ≤ 4000000000 → Some x ≡ cond (within left) (Some left) None
-left_told left x e h = ap Some e ∙ sym (cond-true (within left) (Some left) None (le-leb (nat_abs left) 4000000000 h))
-
 -- with units in range, the change decides
 pub change_told : (component kind : ℕ) (rows : List (List ℕ)) (shares : List ℤ) (balance : ℤ) (lines : List Line) (t : Told ℤ) → kind ≡ kind_of component
     → ◌≡◌ {A = Told (Unit {0})} (done tt) (cond (leb (sum (column rows kind)) 2000000000) (done tt) (refused 8 layer.Ledger (kind + 1)))

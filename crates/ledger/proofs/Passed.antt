@@ -36,11 +36,6 @@ memory_passed members lines cells wanted count e =
     let d = kept (eqb count members) tt (done tt) 4 layer.Ledger 0 b.1 in
     (eqb-true lines (78 * members) a.0, eqb-true cells wanted b.0, eqb-true count members d.0)
 
-pub slot_fits : (members month : ℕ) → row_at members month 0 + 13 * members ≤ 78 * members
-slot_fits members month =
-    let m : month % 6 * 13 + 0 ≤ 65 = omega arith in
-    omega (arith, mul-le-mul_right members m)
-
 -- a bill that is not refused: memory and book fit, the book is of the open month, pools and totals are in range
 pub record BillPassed (a : Accounts) (pools : List ℤ) (b : Reading) (lines cells : ℕ) : Type 0 where
   pub file : lines ≡ 78 * a.members
