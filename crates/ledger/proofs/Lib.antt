@@ -12,4 +12,3 @@ pub mod Lawful
 pub mod BookingKeeps
 pub mod BillKeeps
 pub mod ResettlementKeeps
-pub mod Returned

@@ -1,5 +1,5 @@
 -- What a bill that passed its tests is known to keep.
-use Rattle.std.proofs.Common.{◌≡◌, ℕ, zero, suc, ◌+◌, ◌*◌, ◌%◌, ◌<◌, ◌≤◌, Bool, true, false, cond, ◌&&◌, eqb, leb, List, length, get_or, ℤ, pos, nat_abs, sum, sym, refl, ap, ◌∙◌, mul-le-mul_right, arith}
+use Rattle.std.proofs.Common.{◌≡◌, ℕ, zero, suc, ◌+◌, ◌*◌, ◌<◌, ◌≤◌, Bool, true, false, cond, ◌&&◌, eqb, leb, List, length, get_or, ℤ, pos, nat_abs, sum, sym, refl, ap, ◌∙◌, arith}
 use Rattle.std.proofs.lemmas.Bool.{cond-true, eq-eqb, eqb-true, le-leb, and_from}
 use Rattle.refusal.specs.Answers.{Told, done, refused, next}
 use Rattle.refusal.specs.declared.Layer.{Layer}
@@ -11,7 +11,6 @@ use Rattle.statement.specs.Checks.{charge_rule}
 use Rattle.statement.proofs.Passed.{passed}
 use Rattle.ledger.specs.declared.accounts.Accounts.{Accounts}
 use Rattle.ledger.specs.Readings.{Reading, rows_read}
-use Rattle.ledger.specs.Files.{row_at}
 use Rattle.ledger.specs.Billing.{ranges_rule, memory_rule, bill_check}
 
 -- with a statement and members that fit, only the ranges are left to test

@@ -42,6 +42,7 @@ pub(crate) fn charge_book<R: Rule, B: Book>(
         return Err(Layer::Ledger.refuses(Refusal::Month));
     }
     let pools = accounts.pools(costs);
+    // No heap: memory for the 200 members at most.
     let mut units = [[0u32; 7]; 200];
     let units = &mut units[..members as usize];
     read_book(book, units)?;

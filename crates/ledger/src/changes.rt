@@ -3,7 +3,7 @@ ghost use Rattle.std.specs.Prelude.{◌≡◌, ℕ, ◌+◌, ◌≤◌, true, �
 ghost use Rattle.cents.specs.Cutting.{sum_z};
 ghost use Rattle.refusal.specs.Answers.{answer, done, refused};
 ghost use Rattle.refusal.specs.declared.Layer.TheVariants as layer;
-ghost use Rattle.cents.specs.Passes.{all_pass};
+ghost use Rattle.std.specs.List.{list_all};
 ghost use Rattle.tariff.specs.Heads.{within};
 ghost use Rattle.ledger.specs.Resettling.{cents_within, differences, balance_left};
 
@@ -20,14 +20,11 @@ const MOST_BALANCE: i128 = 4_000_000_000;
 
 /// Whether the cents of every line are in range.
 fn cents_within(lines: &[Line]) -> bool
-    ensures { result ≡ all_pass cents_within lines.now }
+    ensures { result ≡ list_all cents_within lines.now }
 {
-    for line in lines {
-        if line.cents.unsigned_abs() > MOST_CENTS {
-            return false;
-        }
-    }
-    true
+    lines
+        .iter()
+        .all(|line| line.cents.unsigned_abs() <= MOST_CENTS)
 }
 
 /// Writes new shares less the cents billed to date.
@@ -35,7 +32,7 @@ fn write_differences(shares: &[i64], lines: &[Line], out: &mut [i64])
     requires lines { length lines.now ≡ length shares.now }
     requires out { length out.old ≡ length shares.now }
     requires shares { (m : ℕ) → unsigned_abs (slice_index_or shares.now m (pos 0)) ≤ 5000000001 }
-    requires cents { all_pass cents_within lines.now ≡ true }
+    requires cents { list_all cents_within lines.now ≡ true }
     ensures { out.new ≡ differences shares.now lines.now }
 {
     for (i, share) in shares.iter().enumerate() {
@@ -67,7 +64,7 @@ pub(crate) fn find_changes(
     requires lines { length lines.now ≡ length shares.now }
     requires out { length out.old ≡ length shares.now }
     requires shares { (m : ℕ) → unsigned_abs (slice_index_or shares.now m (pos 0)) ≤ 5000000001 }
-    ensures told { answer result ≡ (if all_pass cents_within lines.now && within (balance_left row.balance shares.now lines.now) then done (balance_left row.balance shares.now lines.now) else refused 10 layer.Ledger (row.component + 1)) }
+    ensures told { answer result ≡ (if list_all cents_within lines.now && within (balance_left row.balance shares.now lines.now) then done (balance_left row.balance shares.now lines.now) else refused 10 layer.Ledger (row.component + 1)) }
     ensures changes { OnOk result (out.new ≡ differences shares.now lines.now) }
 {
     let fault = Layer::Ledger.refuses_at(Refusal::Resettled, row.component as u32 + 1);

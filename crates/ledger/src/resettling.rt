@@ -72,6 +72,7 @@ fn resettle_row<R: Rule, B: Book>(
     ensures done { MatchResult result (λ _. (lines.new ≡ lines_of (units_read (reading_of B.Book book.now) row.component) (R.shares rule.now row.pool (units_read (reading_of B.Book book.now) row.component))) × (cells.new ≡ differences (R.shares rule.now row.pool (units_read (reading_of B.Book book.now) row.component)) lines.old)) (λ _. (lines.new ≡ lines.old) × (cells.new ≡ cells.old)) }
 {
     let members = cells.len();
+    // No heap: memory for the 200 members at most.
     let mut units = [0u32; 200];
     let units = &mut units[..members];
     let mut fresh = [0i64; 200];

@@ -26,6 +26,7 @@ pub(crate) fn write_slot(units: &[[u32; 7]], cells: &[i64], slot: &mut [Line])
     ensures { slot.new ≡ lines_of (units_laid units.now 13) cells.now }
 {
     let members = units.len();
+    // The rows are taken by their places: after `chunks_mut` nothing would be known of the slot.
     for component in 0..13 {
         let start = component * members;
         let end = start + members;

@@ -1,8 +1,9 @@
-use Rattle.std.proofs.Common.{get_or, pos, ◌-ℤ◌, nat_abs, sym, ◌∙◌, arith, w64, to_z, of_z, rules}
+use Rattle.std.proofs.Common.{get_or, pos, ◌-ℤ◌, nat_abs, sym, refl, ◌∙◌, arith, w64, to_z, of_z, rules}
 use borrow.Author.Differences.{ints}
 use Rattle.std.proofs.lemmas.Int.{to_z-of_z}
 use Rattle.std.proofs.lemmas.Bool.{leb-true}
-use Rattle.cents.proofs.Passes.{pass_at}
+use Rattle.std.specs.List.{list_all}
+use Rattle.std.proofs.lemmas.List.Recursion.{and_at}
 use Rattle.ledger.specs.Files.{no_line}
 use Rattle.ledger.specs.Resettling.{differences, cents_within}
 use Rattle.ledger.proofs.Overwritten.{front_more, front_end}
@@ -15,7 +16,7 @@ overflow_sub-out c =
     let line = get_or c.args.lines.now i no_line in
     let zs = to_z-of_z w64 (get_or c.args.shares.now i (pos 0)) (search rules) in
     let zl = to_z-of_z w64 line.cents (search rules) in
-    let h = leb-true (nat_abs line.cents) 6000000000 (pass_at cents_within c.args.lines.now i no_line (omega (arith, c.requires.lines)) c.requires.cents) in
+    let h = leb-true (nat_abs line.cents) 6000000000 (and_at (list_all cents_within) cents_within refl (λ _ _. refl) c.args.lines.now i no_line (omega (arith, c.requires.lines)) c.requires.cents) in
     omega (arith, ints, zs, zl, c.requires.shares i, h)
 
 pub loop-i-preserved : goal.loop-i-preserved

@@ -1,16 +1,10 @@
-use Rattle.std.proofs.Common.{◌+◌, ◌-◌, ◌%◌, ◌≤◌, length, get_or, pos, ap, ◌∙◌, arith, w64, rules}
+use Rattle.std.proofs.Common.{◌+◌, ◌-◌, ◌%◌, get_or, pos, ap, ◌∙◌, arith, w64, rules}
 use Rattle.std.proofs.lemmas.Int.{to_z-of_z}
 use Rattle.ledger.specs.Readings.{reading_of}
 use Rattle.ledger.specs.Files.{row_at}
 use Rattle.ledger.specs.Standings.{account_at}
-use Rattle.ledger.proofs.Resettled.{row_fits, lines_told, lines_done}
+use Rattle.ledger.proofs.Resettled.{lines_told, lines_done}
 use Rattle.ledger.proofs.resettling.resettle_lines.Goals as goal
-
-pub slice_bounds-resettle_row-end : goal.slice_bounds-resettle_row-end
-slice_bounds-resettle_row-end g c =
-    let a = c.args.accounts.now in
-    let p : c.row_start-start.result + a.members ≤ length c.args.file.now = omega (arith, row_fits a.members c.month-month.result c.args.component c.requires.component, c.row_start-start.ensures, c.requires.file) in
-    p
 
 pub returns : goal.returns
 returns g c =

@@ -1,4 +1,4 @@
-use Rattle.std.proofs.Common.{◌≡◌, ℕ, ◌<◌, ◌≤◌, List, length, get_or, nat_abs, Ok, sym, refl, ap, ◌∙◌, subst, arith, rules}
+use Rattle.std.proofs.Common.{◌≡◌, ℕ, ◌<◌, ◌≤◌, List, length, get_or, nat_abs, Ok, sym, ap, ◌∙◌, subst, arith, rules}
 use Rattle.refusal.specs.Answers.{Told, done, next, after}
 use Rattle.cents.specs.Cutting.{sum_z}
 use Rattle.tariff.specs.Heads.{sums}
@@ -14,14 +14,6 @@ use Rattle.ledger.proofs.Closed.{no_charge}
 use Rattle.ledger.proofs.Passed.{bill_passed, rows_length}
 use Rattle.ledger.proofs.Rests.{components_length, closed_slots, closed_small, rests_small}
 use Rattle.ledger.proofs.ledger.Ledger.bill.Goals as goal
-
-pub close-requires : goal.close-requires
-close-requires g c =
-    let self = c.args.self.now in
-    let book = c.args.book.now in
-    let b = reading_of g.B.Book book in
-    let p = bill_passed self.accounts (sums c.costs-costs.result (balances self.accounts)) b (length c.args.file.now) (length c.args.statement.now) (g.met.B.Book.peopled book).0 (g.met.B.Book.peopled book).1 c.in_ok-charges.ensures.told in
-    record { month = omega (arith, p.month, (g.met.B.Book.dated book).1) }
 
 pub invariant_of-self-2 : goal.invariant_of-self-2
 invariant_of-self-2 g c =
@@ -45,10 +37,9 @@ invariant_of-self-2 g c =
     }
     )
 
-pub returns : goal.returns
-returns g c =
+pub returns-clause-law : goal.returns-clause-law
+returns-clause-law g c =
     let self = c.args.self.now in
-    let a = self.accounts in
     let book = c.args.book.now in
     let b = reading_of g.B.Book book in
     let sh = g.R.Rule.shares self.rule in
@@ -70,10 +61,4 @@ returns g c =
     let rule : LawfulRule (terms_of g.R.Rule.shares g.R.Rule.step self) = record { stepped = g.met.R.Rule.stepped; long = g.met.R.Rule.long self.rule; idle = g.met.R.Rule.idle self.rule; fair = g.met.R.Rule.fair self.rule } in
     let whole = ap sum_z (sym value) ∙ c.costs-costs.ensures.whole in
     let thirteen : length (cut self.heads.amounts) ≡ 13 = ap length (sym value) ∙ search rules in
-    record {
-      told = told;
-      standing = stands;
-      cells = cells;
-      same = (refl, refl);
-      law = λ h k. bill_keeps (terms_of g.R.Rule.shares g.R.Rule.step self) rule h s (standing c.zero-self.result.amounts c.close.new.self c.charge_book.new.file) b memory c.charge_book.new.statement (Ok charges) (g.met.B.Book.peopled book).0 (g.met.B.Book.peopled book).1 whole thirteen (search rules) self.slots told stands cells k;
-    }
+    λ h k. bill_keeps (terms_of g.R.Rule.shares g.R.Rule.step self) rule h s (standing c.zero-self.result.amounts c.close.new.self c.charge_book.new.file) b memory c.charge_book.new.statement (Ok charges) (g.met.B.Book.peopled book).0 (g.met.B.Book.peopled book).1 whole thirteen (search rules) self.slots told stands cells k

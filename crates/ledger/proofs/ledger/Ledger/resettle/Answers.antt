@@ -1,17 +1,17 @@
-use Rattle.std.proofs.Common.{◌≡◌, ◌+◌, ◌-◌, ◌≤◌, true, List, length, ℤ, nat_abs, Ok, Err, sym, refl, ap, ◌∙◌, w64, rules}
+use Rattle.std.proofs.Common.{◌≡◌, ℕ, ◌+◌, ◌-◌, ◌≤◌, true, List, length, ℤ, nat_abs, Ok, sym, ap, ◌∙◌, subst, w64, rules}
 use Rattle.std.proofs.lemmas.Int.{to_z-of_z}
-use Rattle.refusal.specs.Answers.{done, answer}
+use Rattle.refusal.specs.Answers.{Told, done, bare, after}
 use Rattle.ledger.specs.declared.account.Account.{Account}
 use Rattle.ledger.specs.declared.accounts.Accounts.{Accounts}
 use Rattle.ledger.specs.declared.line.Line.{Line}
 use Rattle.ledger.specs.Readings.{reading_of, units_read}
-use Rattle.ledger.specs.Standings.{standing, account_at}
-use Rattle.ledger.specs.Resettling.{reconciled, lines_at, shares_again, settled}
-use Rattle.ledger.proofs.Resettled.{change_passed, settled_all, reconciled_place}
-use Rattle.ledger.proofs.Returned.{returned}
+use Rattle.ledger.specs.Standings.{standing, account_at, is_on_file}
+use Rattle.ledger.specs.Billing.{Left, memory_rule}
+use Rattle.ledger.specs.Resettling.{reconciled, lines_at, shares_again, change_rule, settled}
+use Rattle.ledger.proofs.Resettled.{change_passed, settled_all, reconciled_place, resettle_is}
+use Rattle.ledger.proofs.ResettlementKeeps.{resettle_keeps}
 use Rattle.ledger.proofs.Lawful.{LawfulRule}
 use Rattle.ledger.specs.Ledgers.{standing_of, terms_of}
-use Rattle.std.proofs.lemmas.Result.{err_from_is_err_and}
 use Rattle.ledger.proofs.ledger.Ledger.resettle.Goals as goal
 
 pub invariant_of-self-2 : goal.invariant_of-self-2
@@ -36,31 +36,32 @@ invariant_of-self-2 g c =
     }
     )
 
-pub returns : goal.returns
-returns g c =
+pub returns-clause-law : goal.returns-clause-law
+returns-clause-law g c =
     let self = c.args.self.now in
     let a = self.accounts in
     let file = c.args.file.now in
-    let b = reading_of g.B.Book c.args.book.now in
-    let i = c.args.component - 1 in
+    let memory = c.args.statement.now in
+    let book = c.args.book.now in
+    let b = reading_of g.B.Book book in
+    let sh = g.R.Rule.shares self.rule in
+    let s = standing_of self file in
+    let component = c.args.component in
+    let i = component - 1 in
+    let r : reconciled component ≡ true = sym c.if-not-is_reconciled.ensures in
+    let p = reconciled_place component r in
+    let m : done tt ≡ memory_rule a.members (length file) (length memory) a.members b.count = c.in_ok-check_memory.ensures ∙ ap (memory_rule a.members (length file) (length memory) a.members) c.members.ensures in
+    let o : is_on_file a b.month ≡ true = sym (c.if-not-is_on_file.ensures ∙ ap (is_on_file a) c.month.ensures) in
     let rule : LawfulRule (terms_of g.R.Rule.shares g.R.Rule.step self) = record { stepped = g.met.R.Rule.stepped; long = g.met.R.Rule.long self.rule; idle = g.met.R.Rule.idle self.rule; fair = g.met.R.Rule.fair self.rule } in
+    let change : ℕ → Told ℤ = λ n. change_rule n (units_read b i) (shares_again sh a b i) (account_at a i).balance (lines_at a file b i) in
     let left = c.in_ok-left.left in
-    let e = c.settle.ensures ∙ ap (λ (x : ℤ). settled i x a) (to_z-of_z w64 left (search rules)) in
+    let z = to_z-of_z w64 left (search rules) in
+    let h = subst (λ (n : ℕ). done left ≡ change n) p.1 c.in_ok-left.ensures.told in
+    let d = resettle_is sh s b component (length memory) (done left) r m o h in
+    let e = c.settle.ensures ∙ ap (λ (x : ℤ). settled i x a) z in
     let q = c.in_ok-left.ensures.done in
-    let stands = ap (λ (x : Accounts). standing self.heads.amounts x c.resettle_lines.new.file) e ∙ ap (λ (f : List Line). standing self.heads.amounts (settled i left a) f) q.0 in
-    let p = returned (terms_of g.R.Rule.shares g.R.Rule.step self) rule (standing_of self file) b c.args.component c.args.statement.now (search rules) _ _ c.if-not-is_reconciled.ensures c.in_ok-check_memory.ensures c.if-not-is_on_file.ensures c.members.ensures c.month.ensures (done left) (standing self.heads.amounts c.settle.new.self c.resettle_lines.new.file) c.resettle_lines.new.statement (Ok tt) c.in_ok-left.ensures.told refl stands q.1 in
-    record { told = p.told; standing = p.stands; cells = p.cells; same = (refl, refl); law = p.law }
-
-pub returns-in_err-left : goal.returns-in_err-left
-returns-in_err-left g c =
-    let self = c.args.self.now in
-    let a = self.accounts in
-    let file = c.args.file.now in
-    let b = reading_of g.B.Book c.args.book.now in
-    let rule : LawfulRule (terms_of g.R.Rule.shares g.R.Rule.step self) = record { stepped = g.met.R.Rule.stepped; long = g.met.R.Rule.long self.rule; idle = g.met.R.Rule.idle self.rule; fair = g.met.R.Rule.fair self.rule } in
-    let f = err_from_is_err_and c.from_residual-in_err-left.result c.from_residual-in_err-left.ensures.1 in
-    let fault = c.in_err-left.field-0.0 in
-    let q = c.in_err-left.ensures.done in
-    let stands = ap (λ (f : List Line). standing self.heads.amounts a f) q.0 in
-    let p = returned (terms_of g.R.Rule.shares g.R.Rule.step self) rule (standing_of self file) b c.args.component c.args.statement.now (search rules) _ _ c.if-not-is_reconciled.ensures c.in_ok-check_memory.ensures c.if-not-is_on_file.ensures c.members.ensures c.month.ensures (answer {T = ℤ} (Err fault)) (standing self.heads.amounts a c.resettle_lines.new.file) c.resettle_lines.new.statement (Err fault) c.in_err-left.ensures.told refl stands q.1 in
-    rw (f.1, f.2) (record { told = p.told; standing = p.stands; cells = p.cells; same = (refl, refl); law = p.law })
+    let new = standing self.heads.amounts c.settle.new.self c.resettle_lines.new.file in
+    let told = ap bare d in
+    let stands = ap (λ (x : Accounts). standing self.heads.amounts x c.resettle_lines.new.file) e ∙ ap (λ (f : List Line). standing self.heads.amounts (settled i left a) f) q.0 ∙ ap (λ (t : Told Left). after t (λ left. left.standing) s) d in
+    let cells = q.1 ∙ ap (λ (t : Told Left). after t (λ left. left.cells) memory) d in
+    λ h k. resettle_keeps (terms_of g.R.Rule.shares g.R.Rule.step self) rule h s new b component memory c.resettle_lines.new.statement (Ok tt) (search rules) told stands cells k
