@@ -16,7 +16,7 @@ use refusal::{Fault, Layer, Refusal};
 const MOST_CENTS: u64 = 6_000_000_000;
 
 /// The largest balance, either way.
-const MOST_BALANCE: i128 = 4_000_000_000;
+const MOST_BALANCE: u128 = 4_000_000_000;
 
 /// Whether the cents of every line are in range.
 fn cents_within(lines: &[Line]) -> bool
@@ -47,7 +47,7 @@ fn balance_left(balance: i64, changes: &[i64]) -> Option<i64>
     ensures { result ≡ (if within (balance -ℤ sum_z changes.now) then Some (balance -ℤ sum_z changes.now) else None) }
 {
     let left = balance as i128 - sum_of(changes);
-    if left < -MOST_BALANCE || left > MOST_BALANCE {
+    if left.unsigned_abs() > MOST_BALANCE {
         return None;
     }
     Some(left as i64)
