@@ -1,14 +1,16 @@
 -- The accounts that a bill closes.
-use Rattle.std.proofs.Common.{◌≡◌, ℕ, zero, suc, ◌+◌, ◌%◌, ◌<◌, ◌≤◌, List, [], ◌∷◌, ◌++◌, length, get_or, take, drop, set, ℤ, pos, ◌+ℤ◌, sym, refl, ap, ◌∙◌, arith}
+use Rattle.std.proofs.Common.{◌≡◌, ℕ, zero, suc, ◌+◌, ◌<◌, ◌≤◌, List, [], ◌∷◌, ◌++◌, map, length, get_or, take, drop, set, ℤ, pos, ◌+ℤ◌, sym, refl, ap, ◌∙◌, arith}
 use lib.ListN.{get_or-map}
-use Rattle.std.proofs.lemmas.List.{length-map, length-append, length-drop, length-take-le}
+use denote.Param.Members.{Mut, Called}
+use Rattle.std.specs.Array.{IsMapOf}
+use Rattle.std.proofs.lemmas.List.{length-map, same_lists, get_or_default}
 use Rattle.charges_text.specs.declared.charges.ComponentCharge.{ComponentCharge}
 use Rattle.tariff.specs.Heads.{sums}
 use Rattle.tariff.proofs.Sums.{sums_at, sums_length}
 use Rattle.ledger.specs.declared.account.Account.{Account}
 use Rattle.ledger.specs.declared.accounts.Accounts.{Accounts}
 use Rattle.ledger.specs.Standings.{balances, account_at}
-use Rattle.ledger.specs.Billing.{billed_account, billed_accounts, closed}
+use Rattle.ledger.specs.Billing.{billed_account, billed_accounts}
 use Rattle.ledger.proofs.Overwritten.{over_at, over_more, over_end}
 
 abbrev pub no_account : Account
@@ -44,44 +46,30 @@ billed_at slot (x ∷ charges) (a ∷ rows) zero e l = refl
 billed_at slot (x ∷ charges) (a ∷ rows) (suc c) e l = billed_at slot charges rows c (omega arith) (omega arith)
 
 -- the accounts closed so far, followed by those that are left
-abbrev pub Closing : List ComponentCharge → Accounts → ℕ → Accounts → Type 0
-Closing charges e i s =
-    (s.members ≡ e.members) × (s.first ≡ e.first) × (s.month ≡ e.month)
-    × (s.rows ≡ take i (billed_accounts (e.month % 6) charges e.rows) ++ drop i e.rows)
+abbrev pub Closing : ℕ → List ComponentCharge → List Account → ℕ → List Account → Type 0
+Closing slot charges rows i now = now ≡ take i (billed_accounts slot charges rows) ++ drop i rows
 
-module _ (charges : List ComponentCharge) (e : Accounts) (lc : length charges ≡ 13) (le : length e.rows ≡ 13) where
-  new : List Account
-  new = billed_accounts (e.month % 6) charges e.rows
+module _ (slot : ℕ) (charges : List ComponentCharge) (rows : List Account) (lc : length charges ≡ 13) (lr : length rows ≡ 13) (i : ℕ) (now : List Account) (inv : Closing slot charges rows i now) where
+  same : length (billed_accounts slot charges rows) ≡ length rows
+  same = billed_length slot charges rows (omega arith)
 
-  same : length new ≡ length e.rows
-  unfolding new
-  same = billed_length (e.month % 6) charges e.rows (omega arith)
+  pub closing_at : i < 13 → get_or now i no_account ≡ get_or rows i no_account
+  closing_at l = over_at no_account (billed_accounts slot charges rows) rows same now i (omega arith) inv
 
-  pub closing_long : (i : ℕ) (s : Accounts) → i ≤ 13 → Closing charges e i s → length s.rows ≡ 13
-  unfolding new
-  closing_long i s l inv =
-      let n = length-append (take i new) (drop i e.rows) in
-      let t = length-take-le i new (omega (arith, same)) in
-      let d = length-drop i e.rows in
-      ap length inv.3 ∙ omega (arith, n, t, d)
+  pub closing_more : (x : Account) → i < 13 → x ≡ billed_account slot (get_or charges i no_charge) (get_or now i no_account) → Closing slot charges rows (i + 1) (set now i x)
+  closing_more x l e =
+      over_more no_account (billed_accounts slot charges rows) rows same now i x (omega arith)
+      (e ∙ ap (billed_account slot (get_or charges i no_charge)) (closing_at l) ∙ sym (billed_at slot charges rows i (omega arith) (omega arith))) inv
 
-  pub closing_at : (i : ℕ) (s : Accounts) → i < 13 → Closing charges e i s → account_at s i ≡ account_at e i
-  unfolding new
-  closing_at i s l inv = over_at no_account new e.rows same s.rows i (omega arith) inv.3
+  pub closing_end : 13 ≤ i → now ≡ billed_accounts slot charges rows
+  closing_end l = over_end no_account (billed_accounts slot charges rows) rows same now i (omega arith) inv
 
-  pub closing_more : (i : ℕ) (s s' : Accounts) → i < 13 → Closing charges e i s
-      → s' ≡ record { members = s.members; first = s.first; month = s.month; rows = set s.rows i (billed_account (s.month % 6) (get_or charges i no_charge) (account_at s i)) }
-      → Closing charges e (i + 1) s'
-  unfolding new
-  closing_more i s s' l inv eq =
-      let x : billed_account (s.month % 6) (get_or charges i no_charge) (account_at s i) ≡ get_or new i no_account = rw (inv.2, closing_at i s l inv) (sym (billed_at (e.month % 6) charges e.rows i (omega arith) (omega arith))) in (
-        ap (λ (a : Accounts). a.members) eq ∙ inv.0,
-        ap (λ (a : Accounts). a.first) eq ∙ inv.1,
-        ap (λ (a : Accounts). a.month) eq ∙ inv.2,
-        ap (λ (a : Accounts). a.rows) eq ∙ over_more no_account new e.rows same s.rows i _ (omega arith) x inv.3,
-      )
-
-  pub closing_end : (i : ℕ) (s : Accounts) → 13 ≤ i → Closing charges e i s
-      → ◌≡◌ {A = Accounts} (record { members = s.members; first = s.first; month = s.month + 1; rows = s.rows }) (closed charges e)
-  unfolding new
-  closing_end i s l inv = rw (inv.0, inv.1, inv.2, over_end no_account new e.rows same s.rows i (omega arith) inv.3) refl
+-- an array of what a function gives of each element of another
+pub map_of : {F A B : Type 0} (g : Mut F (A × Unit {0}) B) (h : A → B) (d : A) (f : F) (xs : List A) (ys : List B) (n : ℕ) → length xs ≡ n → ((p q : F) (x : A) (y : B) → Called g p (x, tt) y q → y ≡ h x) → IsMapOf g f xs ys n
+    → ys ≡ map h xs
+map_of g h d f xs ys n e k m =
+    let l = length-map xs h in
+    same_lists ys (map h xs) (omega (arith, m.long, e, l))
+    (λ i b w.
+    let c = m.at i d (h d) (omega (arith, m.long)) in
+    get_or_default ys i b (h d) (omega arith) ∙ k c.0 c.1 _ _ c.2 ∙ sym (get_or-map h xs i d) ∙ get_or_default (map h xs) i (h d) b (omega (arith, m.long, e, l)))

@@ -1,11 +1,10 @@
 -- Units of one kind, and new shares less the cents billed to date.
-use Rattle.std.proofs.Common.{◌≡◌, ℕ, zero, suc, ◌+◌, ◌-◌, ◌*◌, ◌<◌, ◌≤◌, Bool, true, false, cond, ◌&&◌, ◌||◌, ltb, leb, List, [], ◌∷◌, length, get_or, ℤ, pos, ◌-ℤ◌, nat_abs, Some, None, sum, sym, refl, ap, ◌∙◌, arith}
+use Rattle.std.proofs.Common.{◌≡◌, ℕ, zero, suc, ◌+◌, ◌-◌, ◌*◌, ◌<◌, ◌≤◌, Bool, true, false, cond, ◌&&◌, ◌||◌, ltb, leb, List, [], ◌∷◌, length, get_or, ℤ, pos, ◌-ℤ◌, nat_abs, sum, sym, refl, ap, ◌∙◌, arith}
 use borrow.Author.Differences.{ints}
-use Rattle.std.proofs.lemmas.Bool.{lt-ltb, le-ltb, leb-true, le-leb, and_parts, or_from, cond-true}
+use Rattle.std.proofs.lemmas.Bool.{lt-ltb, le-ltb, leb-true, and_parts, or_from, cond-true}
 use Rattle.cents.specs.Cutting.{sum_z}
-use Rattle.cents.specs.Passes.{all_pass}
+use Rattle.std.specs.List.{list_all}
 use Rattle.refusal.specs.Answers.{Told, done, refused, next}
-use Rattle.refusal.specs.declared.Layer.{Layer}
 use Rattle.refusal.specs.declared.Layer.TheVariants as layer
 use Rattle.tariff.specs.Heads.{within}
 use Rattle.book.specs.Asking.{ask_rule}
@@ -15,6 +14,7 @@ use Rattle.ledger.specs.declared.line.Line.{Line}
 use Rattle.ledger.specs.Files.{no_line}
 use Rattle.ledger.specs.Resettling.{differences, cents_within, balance_left, change_rule}
 use Rattle.ledger.proofs.Laid.{column_at}
+use Rattle.ledger.proofs.Passed.{kept}
 
 row_at : (held : ℕ → ℕ → ℕ) (m k : ℕ) → k < 7 → get_or (book_row held m) k 0 ≡ held (k + 1) m
 row_at held m zero l = refl
@@ -55,32 +55,21 @@ differences_at (s ∷ ss) [] i e = absurd (omega arith)
 differences_at (s ∷ ss) (l ∷ ls) zero e = refl
 differences_at (s ∷ ss) (l ∷ ls) (suc i) e = differences_at ss ls i (omega arith)
 
-pub differences_small : (ss : List ℤ) (ls : List Line) → length ls ≡ length ss → ((m : ℕ) → nat_abs (get_or ss m (pos 0)) ≤ 5000000001) → all_pass cents_within ls ≡ true
+pub differences_small : (ss : List ℤ) (ls : List Line) → length ls ≡ length ss → ((m : ℕ) → nat_abs (get_or ss m (pos 0)) ≤ 5000000001) → list_all cents_within ls ≡ true
     → nat_abs (sum_z (differences ss ls)) ≤ 11000000001 * length ss
 differences_small [] ls e hs hc = omega arith
 differences_small (s ∷ ss) [] e hs hc = absurd (omega arith)
 differences_small (s ∷ ss) (l ∷ ls) e hs hc =
-    let p = and_parts (cents_within l) (all_pass cents_within ls) hc in
+    let p = and_parts (cents_within l) (list_all cents_within ls) hc in
     let c = leb-true (nat_abs l.cents) 6000000000 p.0 in
     let i = differences_small ss ls (omega arith) (λ m. hs (suc m)) p.1 in
     omega (arith, ints, c, hs 0, i)
 
--- a balance that is in range is told
-pub left_told : (left x : ℤ) → x ≡ left → nat_abs left ≤ 4000000000 → Some x ≡ cond (within left) (Some left) None
-left_told left x e h = ap Some e ∙ sym (cond-true (within left) (Some left) None (le-leb (nat_abs left) 4000000000 h))
-
--- too many units refuse the change
-pub units_refuse : (component kind : ℕ) (rows : List (List ℕ)) (shares : List ℤ) (balance : ℤ) (lines : List Line) (n : ℕ) (l : Layer) (p : ℕ) → kind ≡ kind_of component
-    → ◌≡◌ {A = Told (Unit {0})} (refused n l p) (cond (leb (sum (column rows kind)) 2000000000) (done tt) (refused 8 layer.Ledger (kind + 1)))
-    → ◌≡◌ {A = Told ℤ} (refused n l p) (change_rule (component + 1) (column rows (kind_of component)) shares balance lines)
-units_refuse component kind rows shares balance lines n l p ek e =
-    let k : kind ≡ kind_of (component + 1 - 1) = ek ∙ ap kind_of {x = component} {y = component + 1 - 1} (omega arith) in
-    let rest : Told ℤ = cond (all_pass cents_within lines && within (balance_left balance shares lines)) (done (balance_left balance shares lines)) (refused 10 layer.Ledger (component + 1)) in
-    ap (λ (t : Told (Unit {0})). next t (λ _. rest)) e
-    ∙ split (leb (sum (column rows kind)) 2000000000) rest (kind + 1)
-    ∙ ap (λ (i : ℕ). cond (leb (sum (column rows i)) 2000000000) rest (refused 8 layer.Ledger (kind + 1))) ek
-    ∙ ap (λ (i : ℕ). cond (leb (sum (column rows (kind_of component))) 2000000000) rest (refused 8 layer.Ledger (i + 1))) k
-  where
-    split : (b : Bool) (rest : Told ℤ) (i : ℕ) → next {S = Unit {0}} (cond b (done tt) (refused 8 layer.Ledger i)) (λ _. rest) ≡ cond b rest (refused 8 layer.Ledger i)
-    split true rest i = refl
-    split false rest i = refl
+-- with units in range, the change decides
+pub change_told : (component kind : ℕ) (rows : List (List ℕ)) (shares : List ℤ) (balance : ℤ) (lines : List Line) (t : Told ℤ) → kind ≡ kind_of component
+    → ◌≡◌ {A = Told (Unit {0})} (done tt) (cond (leb (sum (column rows kind)) 2000000000) (done tt) (refused 8 layer.Ledger (kind + 1)))
+    → t ≡ cond (list_all cents_within lines && within (balance_left balance shares lines)) (done (balance_left balance shares lines)) (refused 10 layer.Ledger (component + 1))
+    → t ≡ change_rule (component + 1) (column rows (kind_of component)) shares balance lines
+change_told component kind rows shares balance lines t ek d h =
+    let k = kept (leb (sum (column rows kind)) 2000000000) tt (done tt) 8 layer.Ledger (kind + 1) d in
+    h ∙ sym (cond-true (leb (sum (column rows (kind_of component))) 2000000000) _ (refused 8 layer.Ledger (kind_of (component + 1 - 1) + 1)) (ap (λ (i : ℕ). leb (sum (column rows i)) 2000000000) (sym ek) ∙ k.0))

@@ -3,6 +3,7 @@ use Rattle.std.proofs.Common.{◌≡◌, ℕ, zero, suc, ◌+◌, ◌*◌, ◌<�
 use borrow.Rule.Slice.PartMut.{put_mid}
 use lib.ListN.{get_or-map}
 use Rattle.std.proofs.lemmas.List.{length-map, length-append, length-take-le, take_all, take_at, drop_at, drop-drop, drop_all, append_assoc, append-nil}
+use Rattle.std.proofs.Math.Seq.{take-add}
 use Rattle.statement.specs.Columns.{kind_of, column}
 use Rattle.ledger.specs.declared.line.Line.{Line}
 use Rattle.ledger.specs.Files.{no_line, lines_of, units_laid}
@@ -25,11 +26,6 @@ lines_append [] vs [] ys e = refl
 lines_append [] vs (x ∷ xs) ys e = absurd (omega arith)
 lines_append (u ∷ us) vs [] ys e = absurd (omega arith)
 lines_append (u ∷ us) vs (x ∷ xs) ys e = ap (λ (ls : List Line). record { units = u; cents = x } ∷ ls) (lines_append us vs xs ys (omega arith))
-
-pub take_plus : {X : Type 0} (a b : ℕ) (xs : List X) → take (a + b) xs ≡ take a xs ++ take b (drop a xs)
-take_plus zero b xs = ap (λ (n : ℕ). take n xs) {x = 0 + b} {y = b} (omega arith)
-take_plus (suc a) b [] = take_all (suc a + b) [] (omega arith) ∙ sym (take_all b [] (omega arith))
-take_plus {X} (suc a) b (x ∷ xs) = ap (λ (n : ℕ). take n (x ∷ xs)) {x = suc a + b} {y = suc (a + b)} (omega arith) ∙ ap (λ (ys : List X). x ∷ ys) (take_plus a b xs)
 
 pub column_length : (rows : List (List ℕ)) (k : ℕ) → length (column rows k) ≡ length rows
 column_length rows k = length-map rows (λ (row : List ℕ). get_or row k 0)
@@ -68,7 +64,7 @@ module _ (rows : List (List ℕ)) (cells : List ℤ) (long : length cells ≡ 13
       let d : drop (c * n) slot ≡ left = ap (drop (c * n)) es ∙ drop_at done left (c * n) (slot_length c (omega arith)) in
       let f : drop k left ≡ drop ((c + 1) * n) entry = drop-drop k (c * n) entry ∙ ap (λ (i : ℕ). drop i entry) {x = c * n + k} {y = (c + 1) * n} (omega (arith, ek)) in
       let u : units_laid rows (c + 1) ≡ units_laid rows c ++ column rows (kind_of c) = ap (units_laid rows) {x = c + 1} {y = suc c} (omega arith) in
-      let z : take ((c + 1) * n) cells ≡ take (c * n) cells ++ take k (drop (c * n) cells) = ap (λ (i : ℕ). take i cells) {x = (c + 1) * n} {y = c * n + k} (omega (arith, ek)) ∙ take_plus (c * n) k cells in
+      let z : take ((c + 1) * n) cells ≡ take (c * n) cells ++ take k (drop (c * n) cells) = ap (λ (i : ℕ). take i cells) {x = (c + 1) * n} {y = c * n + k} (omega (arith, ek)) ∙ take-add (c * n) k cells in
       let p : slot_rows rows cells (c + 1) ≡ done ++ row = rw (u, z, er) (lines_append (units_laid rows c) (column rows (kind_of c)) (take (c * n) cells) (take k (drop (c * n) cells)) (rows_long c (omega arith))) in
       rw (t, d, f, p) (sym (append_assoc done row (drop ((c + 1) * n) entry)))
 

@@ -1,5 +1,5 @@
 -- What a bill that passed its tests is known to keep.
-use Rattle.std.proofs.Common.{◌≡◌, ℕ, zero, suc, ◌+◌, ◌*◌, ◌%◌, ◌<◌, ◌≤◌, Bool, true, false, cond, ◌&&◌, eqb, leb, List, length, get_or, ℤ, pos, nat_abs, sum, sym, refl, ap, ◌∙◌, mul-le-mul_right, arith}
+use Rattle.std.proofs.Common.{◌≡◌, ℕ, zero, suc, ◌+◌, ◌*◌, ◌<◌, ◌≤◌, Bool, true, false, cond, ◌&&◌, eqb, leb, List, length, get_or, ℤ, pos, nat_abs, sum, sym, refl, ap, ◌∙◌, arith}
 use Rattle.std.proofs.lemmas.Bool.{cond-true, eq-eqb, eqb-true, le-leb, and_from}
 use Rattle.refusal.specs.Answers.{Told, done, refused, next}
 use Rattle.refusal.specs.declared.Layer.{Layer}
@@ -11,7 +11,6 @@ use Rattle.statement.specs.Checks.{charge_rule}
 use Rattle.statement.proofs.Passed.{passed}
 use Rattle.ledger.specs.declared.accounts.Accounts.{Accounts}
 use Rattle.ledger.specs.Readings.{Reading, rows_read}
-use Rattle.ledger.specs.Files.{row_at}
 use Rattle.ledger.specs.Billing.{ranges_rule, memory_rule, bill_check}
 
 -- with a statement and members that fit, only the ranges are left to test
@@ -36,11 +35,6 @@ memory_passed members lines cells wanted count e =
     let d = kept (eqb count members) tt (done tt) 4 layer.Ledger 0 b.1 in
     (eqb-true lines (78 * members) a.0, eqb-true cells wanted b.0, eqb-true count members d.0)
 
-pub slot_fits : (members month : ℕ) → row_at members month 0 + 13 * members ≤ 78 * members
-slot_fits members month =
-    let m : month % 6 * 13 + 0 ≤ 65 = omega arith in
-    omega (arith, mul-le-mul_right members m)
-
 -- a bill that is not refused: memory and book fit, the book is of the open month, pools and totals are in range
 pub record BillPassed (a : Accounts) (pools : List ℤ) (b : Reading) (lines cells : ℕ) : Type 0 where
   pub file : lines ≡ 78 * a.members
@@ -57,6 +51,19 @@ rows_length held m (suc n) = ap suc (rows_length held (m + 1) n)
 pub both : {S T : Type 0} (t : Told S) (k : S → Told T) (v : T) → done v ≡ next t k → (s : S) × (done s ≡ t) × (done v ≡ k s)
 both (done s) k v e = (s, refl, e)
 both (refused n l p) k v e = absurd (done_refused v n l p e)
+
+-- with memory and month tested, the month's charge decides
+pub bill_told : (a : Accounts) (pools pools' : List ℤ) (b : Reading) (rows : List (List ℕ)) (lines cells count month : ℕ) (t : Told (Unit {0})) → done tt ≡ memory_rule a.members lines cells (13 * a.members) count → count ≡ b.count
+    → month ≡ b.month → month ≡ a.month → rows ≡ rows_read b → 1 ≤ b.count → b.count ≤ 200 → pools ≡ pools' → t ≡ charge_rule pools rows cells → t ≡ bill_check a pools' b lines cells
+bill_told a pools pools' b rows lines cells count month t m ec em o e low high ep h =
+    let ranges = cond (eqb b.month a.month) (ranges_rule pools' (rows_read b)) (refused 5 layer.Ledger 0) in
+    let n : length rows ≡ b.count = ap length e ∙ rows_length b.held 0 b.count in
+    let k = memory_passed a.members lines cells (13 * a.members) count m in
+    ranges_left pools rows cells t (omega (arith, n, k.1, k.2, ec)) (omega (arith, n)) (omega (arith, n)) h
+    ∙ ap (ranges_rule pools) e
+    ∙ ap (λ (zs : List ℤ). ranges_rule zs (rows_read b)) ep
+    ∙ sym (cond-true (eqb b.month a.month) (ranges_rule pools' (rows_read b)) (refused 5 layer.Ledger 0) (eq-eqb b.month a.month (sym em ∙ o)))
+    ∙ ap (λ (x : Told (Unit {0})). next x (λ _. ranges)) (m ∙ ap (memory_rule a.members lines cells (13 * a.members)) ec)
 
 pub bill_passed : (a : Accounts) (pools : List ℤ) (b : Reading) (lines cells : ℕ) → 1 ≤ b.count → b.count ≤ 200
     → done tt ≡ bill_check a pools b lines cells → BillPassed a pools b lines cells

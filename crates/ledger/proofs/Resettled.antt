@@ -3,7 +3,7 @@ use Rattle.std.proofs.Common.{◌≡◌, ℕ, ◌+◌, ◌-◌, ◌*◌, ◌%◌
 use borrow.Rule.Slice.PartMut.{put_mid}
 use Rattle.std.proofs.lemmas.List.{get_or-set_same, get_or-set_other}
 use Rattle.std.proofs.lemmas.Bool.{leb-true, eqb-true, and_parts, or_cases, cond-true, cases_eq}
-use Rattle.cents.specs.Passes.{all_pass}
+use Rattle.std.specs.List.{list_all}
 use Rattle.refusal.specs.Answers.{Told, done, refused, next}
 use Rattle.refusal.specs.declared.Fault.{Fault}
 use Rattle.refusal.specs.declared.Layer.TheVariants as layer
@@ -47,13 +47,13 @@ module _ (shares : Shares) (a : Accounts) (file : List Line) (b : Reading) (c : 
 
 -- what a change that is not refused is known to keep
 pub change_passed : (component : ℕ) (units : List ℕ) (shares : List ℤ) (balance : ℤ) (lines : List Line) (left : ℤ) → done left ≡ change_rule component units shares balance lines
-    → (sum units ≤ 2000000000) × (all_pass cents_within lines ≡ true) × (left ≡ balance_left balance shares lines) × (nat_abs left ≤ 4000000000)
+    → (sum units ≤ 2000000000) × (list_all cents_within lines ≡ true) × (left ≡ balance_left balance shares lines) × (nat_abs left ≤ 4000000000)
 change_passed component units shares balance lines left e =
     let found = balance_left balance shares lines in
-    let inner : Told ℤ = cond (all_pass cents_within lines && within found) (done found) (refused 10 layer.Ledger component) in
+    let inner : Told ℤ = cond (list_all cents_within lines && within found) (done found) (refused 10 layer.Ledger component) in
     let p = kept (leb (sum units) 2000000000) left inner 8 layer.Ledger (kind_of (component - 1) + 1) e in
-    let q = kept (all_pass cents_within lines && within found) left (done found) 10 layer.Ledger component p.1 in
-    let w = and_parts (all_pass cents_within lines) (within found) q.0 in
+    let q = kept (list_all cents_within lines && within found) left (done found) 10 layer.Ledger component p.1 in
+    let w = and_parts (list_all cents_within lines) (within found) q.0 in
     let s : left ≡ found = let d = q.1 in cc in
     (leb-true (sum units) 2000000000 p.0, w.0, s, subst (λ (z : ℤ). nat_abs z ≤ 4000000000) (sym s) (leb-true (nat_abs found) 4000000000 w.1))
 

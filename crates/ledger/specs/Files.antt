@@ -1,5 +1,5 @@
 -- The month file: six slots, each with thirteen rows of one line a member.
-use Rattle.std.specs.Prelude.{ℕ, zero, suc, ◌+◌, ◌*◌, ◌%◌, List, [], ◌∷◌, ◌++◌, length, take, drop, ℤ, pos}
+use Rattle.std.specs.Prelude.{◌≡◌, ℕ, zero, suc, ◌+◌, ◌*◌, ◌%◌, ◌<◌, List, [], ◌∷◌, ◌++◌, length, take, drop, ℤ, pos, slice_index}
 use Rattle.statement.specs.Columns.{kind_of, column}
 use Rattle.ledger.specs.declared.line.Line.{Line}
 
@@ -19,6 +19,10 @@ abbrev pub lines_of : List ℕ → List ℤ → List Line
 lines_of [] zs = []
 lines_of (u ∷ us) [] = []
 lines_of (u ∷ us) (z ∷ zs) = record { units = u; cents = z } ∷ lines_of us zs
+
+-- what a function tells of the places in a list are its units
+abbrev pub Tells : (ℕ → ℕ → Type 0) → List ℕ → Type 0
+Tells told us = (i unit : ℕ) → i < length us → told i unit → unit ≡ slice_index us i
 
 -- the units of the first n components, one after the other
 unfoldable pub units_laid : List (List ℕ) → ℕ → List ℕ

@@ -1,5 +1,6 @@
 -- A ledger by its parts.
-use Rattle.std.specs.Prelude.{ℕ, List}
+use Rattle.std.specs.Prelude.{ℕ, List, length, ℤ}
+use Rattle.refusal.specs.Answers.{Told}
 use Rattle.tariff.specs.declared.sheet.Sheet.{Sheet}
 use Rattle.tariff.specs.Costs.{costs}
 use Rattle.sharing.specs.declared.rule.Rule.{Ghosts}
@@ -7,7 +8,9 @@ use Rattle.statement.specs.Charges.{Shares}
 use Rattle.ledger.specs.declared.line.Line.{Line}
 use Rattle.ledger.specs.declared.ledger.Ledger.{Ledger}
 use Rattle.ledger.specs.Standings.{Standing, standing}
-use Rattle.ledger.specs.Billing.{Cut}
+use Rattle.ledger.specs.Readings.{Reading}
+use Rattle.ledger.specs.Billing.{Cut, Left, bill_rule}
+use Rattle.ledger.specs.Resettling.{resettle_rule}
 use Rattle.ledger.specs.Kept.{Terms, terms}
 
 -- how a sheet cuts six heads
@@ -20,3 +23,10 @@ standing_of l file = standing l.heads.amounts l.accounts file
 -- what it was opened with, where a rule means shares and has a step
 abbrev pub terms_of : {R : Type 0} → {G : Ghosts R} → (R → Shares) → ℕ → Ledger R G → Terms
 terms_of shares step l = terms (shares l.rule) step (cut_by l.sheet) l.accounts.members l.accounts.first
+
+-- its bill of the open month by a reading, and its resettlement of a component by one, with a statement
+abbrev pub bill_of : {R : Type 0} → {G : Ghosts R} → Ledger R G → List Line → Reading → List ℤ → Told Left
+bill_of {R} {G} l file b statement = bill_rule (G.shares l.rule) (cut_by l.sheet) (standing_of l file) b (length statement)
+
+abbrev pub resettling_of : {R : Type 0} → {G : Ghosts R} → Ledger R G → List Line → Reading → ℕ → List ℤ → Told Left
+resettling_of {R} {G} l file b component statement = resettle_rule (G.shares l.rule) (standing_of l file) b component (length statement)

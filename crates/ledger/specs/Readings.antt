@@ -1,5 +1,6 @@
 -- What a book means, and the units that a component takes from it.
 use Rattle.std.specs.Prelude.{ℕ, List}
+use Rattle.book.specs.declared.book.Book.{Ghosts}
 use Rattle.statement.specs.Columns.{kind_of, column}
 use Rattle.statement.specs.Readings.{book_rows}
 
@@ -11,6 +12,9 @@ pub record Reading : Type 0 where
 
 abbrev pub reading : ℕ → ℕ → (ℕ → ℕ → ℕ) → Reading
 reading month count held = record { month = month; count = count; held = held }
+
+abbrev pub reading_of : {B : Type 0} → Ghosts B → B → Reading
+reading_of g book = reading (g.month book) (g.count book) (g.held book)
 
 -- the units of the seven kinds, member by member
 abbrev pub rows_read : Reading → List (List ℕ)

@@ -3,7 +3,7 @@ use Rattle.std.specs.Prelude.{ℕ, ◌+◌, ◌-◌, ◌%◌, Bool, cond, ◌&&�
 use Rattle.refusal.specs.Answers.{Told, done, refused, next}
 use Rattle.refusal.specs.declared.Layer.TheVariants as layer
 use Rattle.cents.specs.Cutting.{sum_z}
-use Rattle.cents.specs.Passes.{all_pass}
+use Rattle.std.specs.List.{list_all}
 use Rattle.tariff.specs.Heads.{within}
 use Rattle.statement.specs.Columns.{kind_of}
 use Rattle.statement.specs.Charges.{Shares}
@@ -44,7 +44,7 @@ balance_left balance shares lines = balance -ℤ sum_z (differences shares lines
 abbrev pub change_rule : ℕ → List ℕ → List ℤ → ℤ → List Line → Told ℤ
 change_rule component units shares balance lines =
     cond (nat_le (sum units) 2000000000)
-    (cond (all_pass cents_within lines && within (balance_left balance shares lines)) (done (balance_left balance shares lines)) (refused 10 layer.Ledger component))
+    (cond (list_all cents_within lines && within (balance_left balance shares lines)) (done (balance_left balance shares lines)) (refused 10 layer.Ledger component))
     (refused 8 layer.Ledger (kind_of (component - 1) + 1))
 
 abbrev pub settled : ℕ → ℤ → Accounts → Accounts

@@ -1,5 +1,8 @@
 //! The account of one component.
-ghost use Rattle.std.specs.Prelude.{◌≡◌, ◌<◌, ◌≤◌, length, ◌+ℤ◌, slice_set, unsigned_abs};
+ghost use Rattle.std.specs.Prelude.{◌≡◌, ◌<◌, ◌≤◌, length, ◌+ℤ◌, unsigned_abs};
+ghost use Rattle.ledger.specs.Billing.{billed_account};
+
+use charges_text::charges::ComponentCharge;
 
 /// A balance, and the pools of the months on file, each in the slot of its month.
 #[derive(Clone, Copy)]
@@ -18,14 +21,13 @@ impl Account {
         cost + self.balance
     }
 
-    /// Puts a month's pool in its slot, and what the bill left of it in the balance.
-    pub(crate) fn close(&mut self, slot: usize, pool: i64, balance: i64)
+    /// Puts the pool of a charge in its month's slot, and what is left of it in the balance.
+    pub(crate) fn close(&mut self, slot: usize, charge: ComponentCharge)
         requires slot { slot < 6 }
-        requires long { length self.old.pools ≡ 6 }
-        ensures { self.new ≡ record { balance = balance; pools = slice_set self.old.pools slot pool } }
+        ensures { self.new ≡ billed_account slot charge self.old }
     {
-        self.pools[slot] = pool;
-        self.balance = balance;
+        self.pools[slot] = charge.pool;
+        self.balance = charge.balance;
     }
 
     /// Sets the balance that a resettlement leaves.

@@ -1,9 +1,10 @@
 //! The thirteen accounts of a ledger.
-ghost use Rattle.std.specs.Prelude.{◌≡◌, ℕ, ◌%◌, ◌<◌, ◌≤◌, length, slice_set, unsigned_abs};
+ghost use Rattle.std.specs.Prelude.{◌≡◌, ℕ, ◌%◌, ◌<◌, ◌≤◌, length, unsigned_abs};
 ghost use Rattle.tariff.specs.Heads.{sums};
 ghost use Rattle.tariff.specs.Costs.{Bounded};
-ghost use Rattle.ledger.specs.Standings.{account_at, balances, opened};
-ghost use Rattle.ledger.specs.Billing.{billed_account, closed};
+ghost use Rattle.ledger.specs.Files.{row_at};
+ghost use Rattle.ledger.specs.Standings.{account_at, balances, is_on_file, opened};
+ghost use Rattle.ledger.specs.Billing.{closed};
 ghost use Rattle.ledger.specs.Resettling.{settled};
 
 use crate::account::Account;
@@ -35,40 +36,42 @@ impl Accounts {
         }
     }
 
+    /// Whether a month is one of the six latest billed.
+    pub(crate) fn is_on_file(&self, month: u32) -> bool
+        ensures { result ≡ is_on_file self.now month }
+    {
+        self.first <= month && month < self.month && self.month - month <= 6
+    }
+
+    /// Where the row of a month and of the component at a place begins in the file.
+    pub(crate) fn row_start(&self, month: u32, component: usize) -> usize
+        requires { component < 13 }
+        ensures { result ≡ row_at self.now.members month component }
+    {
+        ((month % 6) as usize * 13 + component) * self.members as usize
+    }
+
     /// The pools of a bill, from the components' costs.
     pub(crate) fn pools(&self, costs: [i64; 13]) -> [i64; 13]
-        requires long { length self.now.rows ≡ 13 }
         requires balances { (c : ℕ) → unsigned_abs (account_at self.now c).balance ≤ 4000000000 }
         requires costs { Bounded 12000000000 costs }
         ensures { result ≡ sums costs (balances self.now) }
     {
         let mut pools = [0i64; 13];
-        for component in 0..13 {
-            pools[component] = self.rows[component].pool(costs[component]);
+        for (component, account) in self.rows.iter().enumerate() {
+            pools[component] = account.pool(costs[component]);
         }
         pools
     }
 
-    /// Closes one account on its charge.
-    fn close_one(&mut self, component: usize, charge: ComponentCharge)
-        requires component { component < 13 }
-        requires long { length self.old.rows ≡ 13 }
-        requires slots { length (account_at self.old component).pools ≡ 6 }
-        ensures { self.new ≡ record { members = self.old.members; first = self.old.first; month = self.old.month; rows = slice_set self.old.rows component (billed_account (self.old.month % 6) charge (account_at self.old component)) } }
-    {
-        let slot = (self.month % 6) as usize;
-        self.rows[component].close(slot, charge.pool, charge.balance);
-    }
-
     /// Closes the open month on its charges, and opens the next.
     pub(crate) fn close(&mut self, charges: [ComponentCharge; 13])
-        requires long { length self.old.rows ≡ 13 }
-        requires slots { (c : ℕ) → c < 13 → length (account_at self.old c).pools ≡ 6 }
         requires month { self.old.month ≤ 35999 }
         ensures { self.new ≡ closed charges self.old }
     {
-        for component in 0..13 {
-            self.close_one(component, charges[component]);
+        let slot = (self.month % 6) as usize;
+        for (component, account) in self.rows.iter_mut().enumerate() {
+            account.close(slot, charges[component]);
         }
         self.month += 1;
     }
@@ -76,7 +79,6 @@ impl Accounts {
     /// Sets one account's balance.
     pub(crate) fn settle(&mut self, component: usize, balance: i64)
         requires component { component < 13 }
-        requires long { length self.old.rows ≡ 13 }
         ensures { self.new ≡ settled component balance self.old }
     {
         self.rows[component].settle(balance);
@@ -84,13 +86,8 @@ impl Accounts {
 
     /// The thirteen balances.
     pub(crate) fn balances(&self) -> [i64; 13]
-        requires { length self.now.rows ≡ 13 }
         ensures { result ≡ balances self.now }
     {
-        let mut balances = [0i64; 13];
-        for component in 0..13 {
-            balances[component] = self.rows[component].balance;
-        }
-        balances
+        self.rows.map(|account| account.balance)
     }
 }

@@ -1,17 +1,15 @@
 //! What a bill writes.
-ghost use Rattle.std.specs.Prelude.{◌≡◌, ℕ, ◌+◌, ◌*◌, ◌≤◌, length, MatchResult, unsigned_abs};
+ghost use Rattle.std.specs.Prelude.{◌≡◌, ℕ, ◌≤◌, length, MatchResult, unsigned_abs};
 ghost use Rattle.refusal.specs.Answers.{answer_by};
 ghost use Rattle.tariff.specs.Heads.{sums};
 ghost use Rattle.tariff.specs.Costs.{Bounded};
-ghost use Rattle.statement.specs.Readings.{book_rows};
 ghost use Rattle.statement.specs.Charges.{components, cells};
-ghost use Rattle.ledger.specs.Readings.{reading};
-ghost use Rattle.ledger.specs.Files.{lines_of, units_laid, put};
+ghost use Rattle.ledger.specs.Readings.{reading_of, rows_read};
 ghost use Rattle.ledger.specs.Standings.{account_at, balances};
-ghost use Rattle.ledger.specs.Billing.{ranges_rule, bill_check, slot_written};
+ghost use Rattle.ledger.specs.Billing.{bill_check, slot_written};
 
 use crate::accounts::Accounts;
-use crate::checks::{check_memory, row_start};
+use crate::checks::check_memory;
 use crate::line::Line;
 use crate::rows::write_slot;
 use book::book::Book;
@@ -21,30 +19,8 @@ use sharing::rule::Rule;
 use statement::month::charge_month;
 use statement::reading::read_book;
 
-/// Reads the book into a row for each member, charges the pools, and writes the lines from a place on.
-fn write_bill<R: Rule, B: Book>(
-    rule: &R,
-    pools: [i64; 13],
-    book: &B,
-    start: usize,
-    units: &mut [[u32; 7]],
-    file: &mut [Line],
-    statement: &mut [i64],
-) -> Result<[ComponentCharge; 13], Fault>
-    requires units { length units.old ≡ B.count book.now }
-    requires statement { length statement.old ≡ 13 * B.count book.now }
-    requires room { start + 13 * B.count book.now ≤ length file.old }
-    ensures told { answer_by (λ _. tt) result ≡ ranges_rule pools (book_rows (B.held book.now) 0 (B.count book.now)) }
-    ensures done { MatchResult result (λ charges. (charges ≡ components (R.shares rule.now) pools (book_rows (B.held book.now) 0 (B.count book.now)) 13) × (statement.new ≡ cells (R.shares rule.now) pools (book_rows (B.held book.now) 0 (B.count book.now)) 13) × (file.new ≡ put start (lines_of (units_laid (book_rows (B.held book.now) 0 (B.count book.now)) 13) statement.new) file.old)) (λ _. (statement.new ≡ statement.old) × (file.new ≡ file.old)) }
-{
-    read_book(book, units)?;
-    let charges = charge_month(rule, pools, units, statement)?;
-    let end = start + statement.len();
-    write_slot(units, statement, &mut file[start..end]);
-    Ok(charges)
-}
-
-/// Tests memory and book, and bills the open month by the book.
+/// Tests memory and book, reads the book into a row for each member, charges the pools, and writes the
+/// open month's lines. Refused, file and statement stay.
 pub(crate) fn charge_book<R: Rule, B: Book>(
     rule: &R,
     accounts: &Accounts,
@@ -54,11 +30,10 @@ pub(crate) fn charge_book<R: Rule, B: Book>(
     statement: &mut [i64],
 ) -> Result<[ComponentCharge; 13], Fault>
     requires members { accounts.now.members ≤ 200 }
-    requires long { length accounts.now.rows ≡ 13 }
     requires balances { (c : ℕ) → unsigned_abs (account_at accounts.now c).balance ≤ 4000000000 }
     requires costs { Bounded 12000000000 costs }
-    ensures told { answer_by (λ _. tt) result ≡ bill_check accounts.now (sums costs (balances accounts.now)) (reading (B.month book.now) (B.count book.now) (B.held book.now)) (length file.old) (length statement.old) }
-    ensures done { MatchResult result (λ charges. (charges ≡ components (R.shares rule.now) (sums costs (balances accounts.now)) (book_rows (B.held book.now) 0 (B.count book.now)) 13) × (statement.new ≡ cells (R.shares rule.now) (sums costs (balances accounts.now)) (book_rows (B.held book.now) 0 (B.count book.now)) 13) × (file.new ≡ slot_written accounts.now (reading (B.month book.now) (B.count book.now) (B.held book.now)) statement.new file.old)) (λ _. (statement.new ≡ statement.old) × (file.new ≡ file.old)) }
+    ensures told { answer_by (λ _. tt) result ≡ bill_check accounts.now (sums costs (balances accounts.now)) (reading_of B.Book book.now) (length file.old) (length statement.old) }
+    ensures done { MatchResult result (λ charges. (charges ≡ components (R.shares rule.now) (sums costs (balances accounts.now)) (rows_read (reading_of B.Book book.now)) 13) × (statement.new ≡ cells (R.shares rule.now) (sums costs (balances accounts.now)) (rows_read (reading_of B.Book book.now)) 13) × (file.new ≡ slot_written accounts.now (reading_of B.Book book.now) statement.new file.old)) (λ _. (statement.new ≡ statement.old) × (file.new ≡ file.old)) }
 {
     let members = accounts.members;
     let wanted = 13 * members as usize;
@@ -67,15 +42,13 @@ pub(crate) fn charge_book<R: Rule, B: Book>(
         return Err(Layer::Ledger.refuses(Refusal::Month));
     }
     let pools = accounts.pools(costs);
-    let start = row_start(members, accounts.month, 0);
+    // No heap: memory for the 200 members at most.
     let mut units = [[0u32; 7]; 200];
-    write_bill(
-        rule,
-        pools,
-        book,
-        start,
-        &mut units[0..members as usize],
-        file,
-        statement,
-    )
+    let units = &mut units[..members as usize];
+    read_book(book, units)?;
+    let charges = charge_month(rule, pools, units, statement)?;
+    let start = accounts.row_start(accounts.month, 0);
+    let end = start + statement.len();
+    write_slot(units, statement, &mut file[start..end]);
+    Ok(charges)
 }

@@ -1,13 +1,14 @@
 //! What a resettlement changes: new shares less the cents billed to date, and the balance left.
-ghost use Rattle.std.specs.Prelude.{◌≡◌, ℕ, ◌+◌, ◌<◌, ◌≤◌, true, ◌&&◌, length, pos, ◌-ℤ◌, if◌then◌else◌, Some, None, sum, OnOk, slice_index_or, unsigned_abs};
+ghost use Rattle.std.specs.Prelude.{◌≡◌, ℕ, ◌+◌, ◌≤◌, true, ◌&&◌, length, pos, ◌-ℤ◌, if◌then◌else◌, Some, None, sum, OnOk, slice_index_or, unsigned_abs};
 ghost use Rattle.cents.specs.Cutting.{sum_z};
 ghost use Rattle.refusal.specs.Answers.{answer, done, refused};
 ghost use Rattle.refusal.specs.declared.Layer.TheVariants as layer;
-ghost use Rattle.cents.specs.Passes.{all_pass};
+ghost use Rattle.std.specs.List.{list_all};
 ghost use Rattle.tariff.specs.Heads.{within};
 ghost use Rattle.ledger.specs.Resettling.{cents_within, differences, balance_left};
 
 use crate::line::Line;
+use crate::resettlement::Resettlement;
 use cents::totals::sum_of;
 use refusal::{Fault, Layer, Refusal};
 
@@ -15,18 +16,15 @@ use refusal::{Fault, Layer, Refusal};
 const MOST_CENTS: u64 = 6_000_000_000;
 
 /// The largest balance, either way.
-const MOST_BALANCE: i128 = 4_000_000_000;
+const MOST_BALANCE: u128 = 4_000_000_000;
 
 /// Whether the cents of every line are in range.
 fn cents_within(lines: &[Line]) -> bool
-    ensures { result ≡ all_pass cents_within lines.now }
+    ensures { result ≡ list_all cents_within lines.now }
 {
-    for line in lines {
-        if line.cents.unsigned_abs() > MOST_CENTS {
-            return false;
-        }
-    }
-    true
+    lines
+        .iter()
+        .all(|line| line.cents.unsigned_abs() <= MOST_CENTS)
 }
 
 /// Writes new shares less the cents billed to date.
@@ -34,21 +32,12 @@ fn write_differences(shares: &[i64], lines: &[Line], out: &mut [i64])
     requires lines { length lines.now ≡ length shares.now }
     requires out { length out.old ≡ length shares.now }
     requires shares { (m : ℕ) → unsigned_abs (slice_index_or shares.now m (pos 0)) ≤ 5000000001 }
-    requires cents { all_pass cents_within lines.now ≡ true }
+    requires cents { list_all cents_within lines.now ≡ true }
     ensures { out.new ≡ differences shares.now lines.now }
 {
-    for i in 0..shares.len() {
-        out[i] = difference(shares[i], lines[i]);
+    for (i, share) in shares.iter().enumerate() {
+        out[i] = *share - lines[i].cents;
     }
-}
-
-/// A new share less the cents of its line.
-fn difference(share: i64, line: Line) -> i64
-    requires share { unsigned_abs share ≤ 5000000001 }
-    requires cents { unsigned_abs line.cents ≤ 6000000000 }
-    ensures { result ≡ share -ℤ line.cents }
-{
-    share - line.cents
 }
 
 /// The balance less the sum of differences, where it is in range.
@@ -58,7 +47,7 @@ fn balance_left(balance: i64, changes: &[i64]) -> Option<i64>
     ensures { result ≡ (if within (balance -ℤ sum_z changes.now) then Some (balance -ℤ sum_z changes.now) else None) }
 {
     let left = balance as i128 - sum_of(changes);
-    if left < -MOST_BALANCE || left > MOST_BALANCE {
+    if left.unsigned_abs() > MOST_BALANCE {
         return None;
     }
     Some(left as i64)
@@ -66,27 +55,22 @@ fn balance_left(balance: i64, changes: &[i64]) -> Option<i64>
 
 /// The differences of a component, and the balance that they leave.
 pub(crate) fn find_changes(
-    component: usize,
-    balance: i64,
+    row: Resettlement,
     shares: &[i64],
     lines: &[Line],
     out: &mut [i64],
 ) -> Result<i64, Fault>
     requires few { length shares.now ≤ 200 }
-    requires component { component < 13 }
-    requires balance { unsigned_abs balance ≤ 4000000000 }
     requires lines { length lines.now ≡ length shares.now }
     requires out { length out.old ≡ length shares.now }
     requires shares { (m : ℕ) → unsigned_abs (slice_index_or shares.now m (pos 0)) ≤ 5000000001 }
-    ensures told { answer result ≡ (if all_pass cents_within lines.now && within (balance_left balance shares.now lines.now) then done (balance_left balance shares.now lines.now) else refused 10 layer.Ledger (component + 1)) }
+    ensures told { answer result ≡ (if list_all cents_within lines.now && within (balance_left row.balance shares.now lines.now) then done (balance_left row.balance shares.now lines.now) else refused 10 layer.Ledger (row.component + 1)) }
     ensures changes { OnOk result (out.new ≡ differences shares.now lines.now) }
 {
+    let fault = Layer::Ledger.refuses_at(Refusal::Resettled, row.component as u32 + 1);
     if !cents_within(lines) {
-        return Err(Layer::Ledger.refuses_at(Refusal::Resettled, component as u32 + 1));
+        return Err(fault);
     }
     write_differences(shares, lines, out);
-    match balance_left(balance, out) {
-        Some(left) => Ok(left),
-        None => Err(Layer::Ledger.refuses_at(Refusal::Resettled, component as u32 + 1)),
-    }
+    balance_left(row.balance, out).ok_or(fault)
 }

@@ -1,7 +1,6 @@
-//! The tests that billing and resettling have in common.
-ghost use Rattle.std.specs.Prelude.{◌≡◌, ◌<◌};
+//! The test that billing and resettling have in common.
+ghost use Rattle.std.specs.Prelude.{◌≡◌};
 ghost use Rattle.refusal.specs.Answers.{answer};
-ghost use Rattle.ledger.specs.Files.{row_at};
 ghost use Rattle.ledger.specs.Billing.{memory_rule};
 
 use refusal::{Fault, Layer, Refusal};
@@ -26,12 +25,4 @@ pub(crate) fn check_memory(
         return Err(Layer::Ledger.refuses(Refusal::Count));
     }
     Ok(())
-}
-
-/// Where the row of a month and of the component at a place begins in the file.
-pub(crate) fn row_start(members: u32, month: u32, component: usize) -> usize
-    requires { component < 13 }
-    ensures { result ≡ row_at members month component }
-{
-    ((month % 6) as usize * 13 + component) * members as usize
 }

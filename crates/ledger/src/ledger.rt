@@ -20,9 +20,9 @@ pub struct Ledger<R: Rule> {
     sheet: Sheet,
     heads: Heads,
     accounts: Accounts,
+    // The accounts are plain records, as specs/ writes them: the ledger keeps what is true of them.
     ghost peopled: { (1 ≤ accounts.members) × (accounts.members ≤ 200) },
     ghost dated: { (24277 ≤ accounts.first) × (accounts.first ≤ accounts.month) × (accounts.month ≤ 36000) },
-    ghost long: { length accounts.rows ≡ 13 },
     ghost slots: { (c : ℕ) → c < 13 → length (account_at accounts c).pools ≡ 6 },
     ghost small: { (c : ℕ) → unsigned_abs (account_at accounts c).balance ≤ 4000000000 },
 }

@@ -8,6 +8,7 @@ mod changes;
 mod checks;
 pub mod ledger;
 pub mod line;
+mod resettlement;
 mod resettling;
 mod rows;
 pub mod unbooked;

@@ -3,16 +3,15 @@ ghost use Rattle.std.specs.Prelude.{◌≡◌, ◌+◌, ◌*◌, ◌<◌, ◌≤
 ghost use Rattle.refusal.specs.Answers.{answer, done, refused};
 ghost use Rattle.refusal.specs.declared.Layer.TheVariants as layer;
 ghost use Rattle.statement.specs.Columns.{column, kind_of};
-ghost use Rattle.statement.specs.Readings.{book_rows};
-ghost use Rattle.ledger.specs.Readings.{reading, units_read};
+ghost use Rattle.ledger.specs.Readings.{reading_of, rows_read, units_read};
 ghost use Rattle.ledger.specs.Files.{row_at, lines_of, put};
 ghost use Rattle.ledger.specs.Standings.{account_at};
 ghost use Rattle.ledger.specs.Resettling.{differences, lines_at, shares_again, change_rule};
 
 use crate::accounts::Accounts;
 use crate::changes::find_changes;
-use crate::checks::row_start;
 use crate::line::Line;
+use crate::resettlement::Resettlement;
 use crate::rows::write_lines;
 use book::book::Book;
 use cents::weights::total;
@@ -28,10 +27,10 @@ fn read_kind<B: Book>(book: &B, kind: usize, out: &mut [u32]) -> Result<(), Faul
     requires kind { kind < 7 }
     requires long { length out.old ≡ B.count book.now }
     ensures told { answer result ≡ done tt }
-    ensures units { out.new ≡ column (book_rows (B.held book.now) 0 (B.count book.now)) kind }
+    ensures units { out.new ≡ column (rows_read (reading_of B.Book book.now)) kind }
 {
-    for i in 0..out.len() {
-        out[i] = book.units(kind as u32 + 1, i as u32)?;
+    for (member, units) in out.iter_mut().enumerate() {
+        *units = book.units(kind as u32 + 1, member as u32)?;
     }
     Ok(())
 }
@@ -48,8 +47,8 @@ fn share_again<R: Rule, B: Book>(
     requires kind { kind < 7 }
     requires units { length units.old ≡ B.count book.now }
     requires fresh { length fresh.old ≡ B.count book.now }
-    ensures told { answer result ≡ (if nat_le (sum (column (book_rows (B.held book.now) 0 (B.count book.now)) kind)) 2000000000 then done tt else refused 8 layer.Ledger (kind + 1)) }
-    ensures shared { OnOk result ((units.new ≡ column (book_rows (B.held book.now) 0 (B.count book.now)) kind) × (fresh.new ≡ R.shares rule.now pool (column (book_rows (B.held book.now) 0 (B.count book.now)) kind))) }
+    ensures told { answer result ≡ (if nat_le (sum (column (rows_read (reading_of B.Book book.now)) kind)) 2000000000 then done tt else refused 8 layer.Ledger (kind + 1)) }
+    ensures shared { OnOk result ((units.new ≡ column (rows_read (reading_of B.Book book.now)) kind) × (fresh.new ≡ R.shares rule.now pool (column (rows_read (reading_of B.Book book.now)) kind))) }
 {
     read_kind(book, kind, units)?;
     if total(units) > MOST_UNITS {
@@ -59,70 +58,32 @@ fn share_again<R: Rule, B: Book>(
     Ok(())
 }
 
-/// Resettles one row of lines, in memory that has a place for each member: units, new shares and
-/// differences. Tells the balance that is left; refused, lines and cells stay.
+/// Resettles one row of lines, and tells the balance that is left; refused, lines and cells stay.
 fn resettle_row<R: Rule, B: Book>(
     rule: &R,
-    pool: i64,
-    balance: i64,
-    component: usize,
-    book: &B,
-    units: &mut [u32],
-    fresh: &mut [i64],
-    changes: &mut [i64],
-    lines: &mut [Line],
-    cells: &mut [i64],
-) -> Result<i64, Fault>
-    requires component { component < 13 }
-    requires balance { unsigned_abs balance ≤ 4000000000 }
-    requires units { length units.old ≡ B.count book.now }
-    requires fresh { length fresh.old ≡ B.count book.now }
-    requires changes { length changes.old ≡ B.count book.now }
-    requires lines { length lines.old ≡ B.count book.now }
-    requires cells { length cells.old ≡ B.count book.now }
-    ensures told { answer result ≡ change_rule (component + 1) (column (book_rows (B.held book.now) 0 (B.count book.now)) (kind_of component)) (R.shares rule.now pool (column (book_rows (B.held book.now) 0 (B.count book.now)) (kind_of component))) balance lines.old }
-    ensures done { MatchResult result (λ _. (lines.new ≡ lines_of (column (book_rows (B.held book.now) 0 (B.count book.now)) (kind_of component)) (R.shares rule.now pool (column (book_rows (B.held book.now) 0 (B.count book.now)) (kind_of component)))) × (cells.new ≡ differences (R.shares rule.now pool (column (book_rows (B.held book.now) 0 (B.count book.now)) (kind_of component))) lines.old)) (λ _. (lines.new ≡ lines.old) × (cells.new ≡ cells.old)) }
-{
-    share_again(rule, pool, kind_of(component), book, units, fresh)?;
-    let left = find_changes(component, balance, fresh, lines, changes)?;
-    cells.copy_from_slice(changes);
-    write_lines(units, fresh, lines);
-    Ok(left)
-}
-
-/// The same in memory of its own.
-fn resettle_members<R: Rule, B: Book>(
-    rule: &R,
-    pool: i64,
-    balance: i64,
-    component: usize,
+    row: Resettlement,
     book: &B,
     lines: &mut [Line],
     cells: &mut [i64],
 ) -> Result<i64, Fault>
-    requires component { component < 13 }
-    requires balance { unsigned_abs balance ≤ 4000000000 }
     requires lines { length lines.old ≡ B.count book.now }
     requires cells { length cells.old ≡ B.count book.now }
-    ensures told { answer result ≡ change_rule (component + 1) (column (book_rows (B.held book.now) 0 (B.count book.now)) (kind_of component)) (R.shares rule.now pool (column (book_rows (B.held book.now) 0 (B.count book.now)) (kind_of component))) balance lines.old }
-    ensures done { MatchResult result (λ _. (lines.new ≡ lines_of (column (book_rows (B.held book.now) 0 (B.count book.now)) (kind_of component)) (R.shares rule.now pool (column (book_rows (B.held book.now) 0 (B.count book.now)) (kind_of component)))) × (cells.new ≡ differences (R.shares rule.now pool (column (book_rows (B.held book.now) 0 (B.count book.now)) (kind_of component))) lines.old)) (λ _. (lines.new ≡ lines.old) × (cells.new ≡ cells.old)) }
+    ensures told { answer result ≡ change_rule (row.component + 1) (units_read (reading_of B.Book book.now) row.component) (R.shares rule.now row.pool (units_read (reading_of B.Book book.now) row.component)) row.balance lines.old }
+    ensures done { MatchResult result (λ _. (lines.new ≡ lines_of (units_read (reading_of B.Book book.now) row.component) (R.shares rule.now row.pool (units_read (reading_of B.Book book.now) row.component))) × (cells.new ≡ differences (R.shares rule.now row.pool (units_read (reading_of B.Book book.now) row.component)) lines.old)) (λ _. (lines.new ≡ lines.old) × (cells.new ≡ cells.old)) }
 {
     let members = cells.len();
+    // No heap: memory for the 200 members at most.
     let mut units = [0u32; 200];
+    let units = &mut units[..members];
     let mut fresh = [0i64; 200];
+    let fresh = &mut fresh[..members];
     let mut changes = [0i64; 200];
-    resettle_row(
-        rule,
-        pool,
-        balance,
-        component,
-        book,
-        &mut units[0..members],
-        &mut fresh[0..members],
-        &mut changes[0..members],
-        lines,
-        cells,
-    )
+    let changes = &mut changes[..members];
+    share_again(rule, row.pool, kind_of(row.component), book, units, fresh)?;
+    let left = find_changes(row, fresh, lines, changes)?;
+    cells.copy_from_slice(changes);
+    write_lines(|i| units[i], fresh, lines);
+    Ok(left)
 }
 
 /// Resettles the component at a place for the book's month, which is on file.
@@ -139,17 +100,18 @@ pub(crate) fn resettle_lines<R: Rule, B: Book>(
     requires count { B.count book.now ≡ accounts.now.members }
     requires file { length file.old ≡ 78 * accounts.now.members }
     requires statement { length statement.old ≡ accounts.now.members }
-    requires long { length accounts.now.rows ≡ 13 }
-    requires slots { length (account_at accounts.now component).pools ≡ 6 }
     requires balance { unsigned_abs (account_at accounts.now component).balance ≤ 4000000000 }
-    ensures told { answer result ≡ change_rule (component + 1) (units_read (reading (B.month book.now) (B.count book.now) (B.held book.now)) component) (shares_again (R.shares rule.now) accounts.now (reading (B.month book.now) (B.count book.now) (B.held book.now)) component) (account_at accounts.now component).balance (lines_at accounts.now file.old (reading (B.month book.now) (B.count book.now) (B.held book.now)) component) }
-    ensures done { MatchResult result (λ _. (file.new ≡ put (row_at accounts.now.members (B.month book.now) component) (lines_of (units_read (reading (B.month book.now) (B.count book.now) (B.held book.now)) component) (shares_again (R.shares rule.now) accounts.now (reading (B.month book.now) (B.count book.now) (B.held book.now)) component)) file.old) × (statement.new ≡ differences (shares_again (R.shares rule.now) accounts.now (reading (B.month book.now) (B.count book.now) (B.held book.now)) component) (lines_at accounts.now file.old (reading (B.month book.now) (B.count book.now) (B.held book.now)) component))) (λ _. (file.new ≡ file.old) × (statement.new ≡ statement.old)) }
+    ensures told { answer result ≡ change_rule (component + 1) (units_read (reading_of B.Book book.now) component) (shares_again (R.shares rule.now) accounts.now (reading_of B.Book book.now) component) (account_at accounts.now component).balance (lines_at accounts.now file.old (reading_of B.Book book.now) component) }
+    ensures done { MatchResult result (λ _. (file.new ≡ put (row_at accounts.now.members (B.month book.now) component) (lines_of (units_read (reading_of B.Book book.now) component) (shares_again (R.shares rule.now) accounts.now (reading_of B.Book book.now) component)) file.old) × (statement.new ≡ differences (shares_again (R.shares rule.now) accounts.now (reading_of B.Book book.now) component) (lines_at accounts.now file.old (reading_of B.Book book.now) component))) (λ _. (file.new ≡ file.old) × (statement.new ≡ statement.old)) }
 {
     let month = book.month();
     let account = accounts.rows[component];
-    let pool = account.pools[(month % 6) as usize];
-    let start = row_start(accounts.members, month, component);
+    let row = Resettlement {
+        component,
+        pool: account.pools[(month % 6) as usize],
+        balance: account.balance,
+    };
+    let start = accounts.row_start(month, component);
     let end = start + accounts.members as usize;
-    let row = &mut file[start..end];
-    resettle_members(rule, pool, account.balance, component, book, row, statement)
+    resettle_row(rule, row, book, &mut file[start..end], statement)
 }

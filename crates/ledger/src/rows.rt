@@ -1,23 +1,20 @@
 //! The lines that a bill and a resettlement write.
-ghost use Rattle.std.specs.Prelude.{◌≡◌, ◌*◌, ◌<◌, length};
-ghost use Rattle.statement.specs.Columns.{column};
-ghost use Rattle.ledger.specs.Files.{lines_of, units_laid};
+ghost use Rattle.std.specs.Prelude.{◌≡◌, ℕ, ◌*◌, ◌<◌, List, length};
+ghost use Rattle.ledger.specs.Files.{Tells, lines_of, units_laid};
 
 use crate::line::Line;
 use statement::component::kind_of;
 
-/// Writes the lines of one component: the units of a kind, and the cells.
-fn write_row(units: &[[u32; 7]], kind: usize, cells: &[i64], lines: &mut [Line])
-    requires kind { kind < 7 }
-    requires cells { length cells.now ≡ length units.now }
-    requires lines { length lines.old ≡ length units.now }
-    ensures { lines.new ≡ lines_of (column units.now kind) cells.now }
+/// Writes lines of units and cents, where a function tells the units of each place.
+pub(crate) fn write_lines<F: Fn(usize) -> u32>(units: F, cents: &[i64], lines: &mut [Line])
+    requires units { (i : ℕ) → i < length cents.now → F.pre units i }
+    requires lines { length lines.old ≡ length cents.now }
+    ensures { (us : List ℕ) → length us ≡ length cents.now → Tells (F.post units) us → lines.new ≡ lines_of us cents.now }
 {
-    for i in 0..units.len() {
-        let held = units[i][kind];
+    for (i, cents) in cents.iter().enumerate() {
         lines[i] = Line {
-            units: held,
-            cents: cells[i],
+            units: units(i),
+            cents: *cents,
         };
     }
 }
@@ -29,28 +26,15 @@ pub(crate) fn write_slot(units: &[[u32; 7]], cells: &[i64], slot: &mut [Line])
     ensures { slot.new ≡ lines_of (units_laid units.now 13) cells.now }
 {
     let members = units.len();
+    // The rows are taken by their places: after `chunks_mut` nothing would be known of the slot.
     for component in 0..13 {
         let start = component * members;
         let end = start + members;
-        write_row(
-            units,
-            kind_of(component),
+        let kind = kind_of(component);
+        write_lines(
+            |i| units[i][kind],
             &cells[start..end],
             &mut slot[start..end],
         );
-    }
-}
-
-/// Writes lines of units and cents.
-pub(crate) fn write_lines(units: &[u32], cents: &[i64], lines: &mut [Line])
-    requires cents { length cents.now ≡ length units.now }
-    requires lines { length lines.old ≡ length units.now }
-    ensures { lines.new ≡ lines_of units.now cents.now }
-{
-    for i in 0..units.len() {
-        lines[i] = Line {
-            units: units[i],
-            cents: cents[i],
-        };
     }
 }

@@ -1,11 +1,10 @@
 //! Billing the open month.
-ghost use Rattle.std.specs.Prelude.{◌≡◌, ◌∷◌, length, MatchResult};
+ghost use Rattle.std.specs.Prelude.{◌≡◌, ◌∷◌, MatchResult};
 ghost use Rattle.refusal.specs.Answers.{answer, done, next, after};
-ghost use Rattle.ledger.specs.Readings.{reading};
-ghost use Rattle.ledger.specs.Billing.{bill_rule};
+ghost use Rattle.ledger.specs.Readings.{reading_of};
 ghost use Rattle.ledger.specs.Histories.{History, billed};
 ghost use Rattle.ledger.specs.Kept.{Kept};
-ghost use Rattle.ledger.specs.Ledgers.{cut_by, standing_of, terms_of};
+ghost use Rattle.ledger.specs.Ledgers.{bill_of, standing_of, terms_of};
 
 use crate::billing::charge_book;
 use crate::ledger::Ledger;
@@ -25,11 +24,11 @@ impl<R: Rule> Ledger<R> {
         file: &mut [Line],
         statement: &mut [i64],
     ) -> Result<[ComponentCharge; 13], Fault>
-        ensures told { answer result ≡ next (bill_rule (R.shares self.old.rule) (cut_by self.old.sheet) (standing_of self.old file.old) (reading (B.month book.now) (B.count book.now) (B.held book.now)) (length statement.old)) (λ left. done left.components) }
-        ensures standing { standing_of self.new file.new ≡ after (bill_rule (R.shares self.old.rule) (cut_by self.old.sheet) (standing_of self.old file.old) (reading (B.month book.now) (B.count book.now) (B.held book.now)) (length statement.old)) (λ left. left.standing) (standing_of self.old file.old) }
-        ensures cells { statement.new ≡ after (bill_rule (R.shares self.old.rule) (cut_by self.old.sheet) (standing_of self.old file.old) (reading (B.month book.now) (B.count book.now) (B.held book.now)) (length statement.old)) (λ left. left.cells) statement.old }
+        ensures told { answer result ≡ next (bill_of self.old file.old (reading_of B.Book book.now) statement.old) (λ left. done left.components) }
+        ensures standing { standing_of self.new file.new ≡ after (bill_of self.old file.old (reading_of B.Book book.now) statement.old) (λ left. left.standing) (standing_of self.old file.old) }
+        ensures cells { statement.new ≡ after (bill_of self.old file.old (reading_of B.Book book.now) statement.old) (λ left. left.cells) statement.old }
         ensures same { (self.new.rule ≡ self.old.rule) × (self.new.sheet ≡ self.old.sheet) }
-        ensures law { (h : History) → Kept (terms_of R.shares R.STEP self.old) h (standing_of self.old file.old) → MatchResult result (λ _. Kept (terms_of R.shares R.STEP self.old) (billed (reading (B.month book.now) (B.count book.now) (B.held book.now)) statement.new ∷ h) (standing_of self.new file.new)) (λ _. Kept (terms_of R.shares R.STEP self.old) h (standing_of self.new file.new)) }
+        ensures law { (h : History) → Kept (terms_of R.shares R.STEP self.old) h (standing_of self.old file.old) → MatchResult result (λ _. Kept (terms_of R.shares R.STEP self.old) (billed (reading_of B.Book book.now) statement.new ∷ h) (standing_of self.new file.new)) (λ _. Kept (terms_of R.shares R.STEP self.old) h (standing_of self.new file.new)) }
     {
         let costs = self.sheet.costs(&self.heads);
         let charges = charge_book(&self.rule, &self.accounts, costs, book, file, statement)?;

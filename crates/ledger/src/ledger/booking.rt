@@ -26,9 +26,8 @@ impl<R: Rule> Ledger<R> {
         ensures law { (h : History) (file : List Line) → Kept (terms_of R.shares R.STEP self.old) h (standing_of self.old file) → MatchResult result (λ _. Kept (terms_of R.shares R.STEP self.old) (booked voucher.amounts ∷ h) (standing_of self.new file)) (λ _. Kept (terms_of R.shares R.STEP self.old) h (standing_of self.new file)) }
     {
         let amounts = voucher.spend();
-        match self.heads.book(amounts) {
-            Ok(()) => Ok(()),
-            Err(fault) => Err(Unbooked { fault, amounts }),
-        }
+        self.heads
+            .book(amounts)
+            .map_err(|fault| Unbooked { fault, amounts })
     }
 }

@@ -1,14 +1,12 @@
 //! Resettling a month on file.
-ghost use Rattle.std.specs.Prelude.{◌≡◌, ◌-◌, ◌&&◌, ◌||◌, ◌∷◌, length, MatchResult};
+ghost use Rattle.std.specs.Prelude.{◌≡◌, ◌-◌, ◌||◌, ◌∷◌, MatchResult};
 ghost use Rattle.refusal.specs.Answers.{answer, bare, after};
-ghost use Rattle.ledger.specs.Readings.{reading};
-ghost use Rattle.ledger.specs.Standings.{is_on_file};
-ghost use Rattle.ledger.specs.Resettling.{reconciled, resettle_rule};
+ghost use Rattle.ledger.specs.Readings.{reading_of};
+ghost use Rattle.ledger.specs.Resettling.{reconciled};
 ghost use Rattle.ledger.specs.Histories.{History, resettled};
 ghost use Rattle.ledger.specs.Kept.{Kept};
-ghost use Rattle.ledger.specs.Ledgers.{standing_of, terms_of};
+ghost use Rattle.ledger.specs.Ledgers.{resettling_of, standing_of, terms_of};
 
-use crate::accounts::Accounts;
 use crate::checks::check_memory;
 use crate::ledger::Ledger;
 use crate::line::Line;
@@ -24,13 +22,6 @@ fn is_reconciled(component: u32) -> bool
     component == 8 || component == 11
 }
 
-/// Whether a month is one of the six latest billed.
-fn is_on_file(accounts: &Accounts, month: u32) -> bool
-    ensures { result ≡ is_on_file accounts.now month }
-{
-    accounts.first <= month && month < accounts.month && accounts.month - month <= 6
-}
-
 impl<R: Rule> Ledger<R> {
     /// Resettles a component of the book's month by the book: that month's own pool is shared again, and
     /// the statement gets what changes. Refused, nothing changes.
@@ -41,11 +32,11 @@ impl<R: Rule> Ledger<R> {
         file: &mut [Line],
         statement: &mut [i64],
     ) -> Result<(), Fault>
-        ensures told { answer result ≡ bare (resettle_rule (R.shares self.old.rule) (standing_of self.old file.old) (reading (B.month book.now) (B.count book.now) (B.held book.now)) component (length statement.old)) }
-        ensures standing { standing_of self.new file.new ≡ after (resettle_rule (R.shares self.old.rule) (standing_of self.old file.old) (reading (B.month book.now) (B.count book.now) (B.held book.now)) component (length statement.old)) (λ left. left.standing) (standing_of self.old file.old) }
-        ensures cells { statement.new ≡ after (resettle_rule (R.shares self.old.rule) (standing_of self.old file.old) (reading (B.month book.now) (B.count book.now) (B.held book.now)) component (length statement.old)) (λ left. left.cells) statement.old }
+        ensures told { answer result ≡ bare (resettling_of self.old file.old (reading_of B.Book book.now) component statement.old) }
+        ensures standing { standing_of self.new file.new ≡ after (resettling_of self.old file.old (reading_of B.Book book.now) component statement.old) (λ left. left.standing) (standing_of self.old file.old) }
+        ensures cells { statement.new ≡ after (resettling_of self.old file.old (reading_of B.Book book.now) component statement.old) (λ left. left.cells) statement.old }
         ensures same { (self.new.rule ≡ self.old.rule) × (self.new.sheet ≡ self.old.sheet) }
-        ensures law { (h : History) → Kept (terms_of R.shares R.STEP self.old) h (standing_of self.old file.old) → MatchResult result (λ _. Kept (terms_of R.shares R.STEP self.old) (resettled (component - 1) (reading (B.month book.now) (B.count book.now) (B.held book.now)) statement.new ∷ h) (standing_of self.new file.new)) (λ _. Kept (terms_of R.shares R.STEP self.old) h (standing_of self.new file.new)) }
+        ensures law { (h : History) → Kept (terms_of R.shares R.STEP self.old) h (standing_of self.old file.old) → MatchResult result (λ _. Kept (terms_of R.shares R.STEP self.old) (resettled (component - 1) (reading_of B.Book book.now) statement.new ∷ h) (standing_of self.new file.new)) (λ _. Kept (terms_of R.shares R.STEP self.old) h (standing_of self.new file.new)) }
     {
         if !is_reconciled(component) {
             return Err(Layer::Ledger.refuses(Refusal::Kind));
@@ -58,7 +49,7 @@ impl<R: Rule> Ledger<R> {
             members as usize,
             book.members(),
         )?;
-        if !is_on_file(&self.accounts, book.month()) {
+        if !self.accounts.is_on_file(book.month()) {
             return Err(Layer::Ledger.refuses(Refusal::Month));
         }
         let place = component as usize - 1;

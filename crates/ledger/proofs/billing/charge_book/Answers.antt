@@ -1,15 +1,19 @@
-use Rattle.std.proofs.Common.{◌-◌, ◌*◌, length, ◌∙◌, arith}
-use Rattle.std.proofs.lemmas.List.{length-take-le}
-use Rattle.ledger.proofs.Passed.{memory_passed, slot_fits}
+use Rattle.std.proofs.lemmas.Result.{err_from_is_err_and}
+use Rattle.tariff.specs.Heads.{sums}
+use Rattle.ledger.specs.Readings.{reading_of}
+use Rattle.ledger.specs.Standings.{balances}
+use Rattle.ledger.proofs.Passed.{bill_told}
 use Rattle.ledger.proofs.billing.charge_book.Goals as goal
 
-pub write_bill-requires : goal.write_bill-requires
-write_bill-requires g c =
-    let a = c.args.accounts.now in
-    let p = memory_passed a.members (length c.args.file.now) (length c.args.statement.now) (13 * a.members) _ c.in_ok-check_memory.ensures in
-    let n = c.members.ensures in
-    record {
-      units = length-take-le (a.members - 0) _ (omega (arith, c.requires.members)) ∙ omega (arith, p.2, n);
-      statement = omega (arith, p.1, p.2, n);
-      room = omega (arith, slot_fits a.members a.month, p.0, p.2, n, c.row_start-start.ensures);
-    }
+pub returns-in_err-charges-clause-told : goal.returns-in_err-charges-clause-told
+returns-in_err-charges-clause-told g c =
+    let p = err_from_is_err_and c.from_residual-in_err-charges.result c.from_residual-in_err-charges.ensures.1 in
+    let book = c.args.book.now in
+    let few = g.met.B.Book.peopled book in
+    rw (p.1, p.2) (bill_told c.args.accounts.now _ (sums c.args.costs (balances c.args.accounts.now)) (reading_of g.B.Book book) _ _ _ _ _ _ c.in_ok-check_memory.ensures c.members.ensures c.month.ensures c.if-month-accounts.false c.in_ok-read_book.ensures.after few.0 few.1 c.pools-pools.ensures c.in_err-charges.ensures.told)
+
+pub returns-clause-told : goal.returns-clause-told
+returns-clause-told g c =
+    let book = c.args.book.now in
+    let few = g.met.B.Book.peopled book in
+    bill_told c.args.accounts.now _ (sums c.args.costs (balances c.args.accounts.now)) (reading_of g.B.Book book) _ _ _ _ _ _ c.in_ok-check_memory.ensures c.members.ensures c.month.ensures c.if-month-accounts.false c.in_ok-read_book.ensures.after few.0 few.1 c.pools-pools.ensures c.in_ok-charges.ensures.told

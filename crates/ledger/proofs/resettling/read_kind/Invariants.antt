@@ -4,5 +4,5 @@ use Rattle.statement.specs.Readings.{book_rows}
 use Rattle.ledger.proofs.resettling.read_kind.Given as goal
 
 -- the units so far
-abbrev pub invariant-loop-i : goal.invariant-loop-i
-invariant-loop-i g l = take l.i l.out ≡ take l.i (column (book_rows (g.B.Book.held l.book) 0 (g.B.Book.count l.book)) l.kind)
+abbrev pub invariant-loop-member : goal.invariant-loop-member
+invariant-loop-member g l = take l.member l.out ≡ take l.member (column (book_rows (g.B.Book.held l.book) 0 (g.B.Book.count l.book)) l.kind)

@@ -1,22 +1,16 @@
-use Rattle.std.proofs.Common.{◌+◌, ◌-◌, ◌%◌, ◌≤◌, length, get_or, pos, ap, ◌∙◌, arith, w64, rules}
+use Rattle.std.proofs.Common.{◌+◌, ◌-◌, ◌%◌, get_or, pos, ap, ◌∙◌, arith, w64, rules}
 use Rattle.std.proofs.lemmas.Int.{to_z-of_z}
-use Rattle.ledger.specs.Readings.{reading}
+use Rattle.ledger.specs.Readings.{reading_of}
 use Rattle.ledger.specs.Files.{row_at}
 use Rattle.ledger.specs.Standings.{account_at}
-use Rattle.ledger.proofs.Resettled.{row_fits, lines_told, lines_done}
+use Rattle.ledger.proofs.Resettled.{lines_told, lines_done}
 use Rattle.ledger.proofs.resettling.resettle_lines.Goals as goal
-
-pub slice_bounds-row-end : goal.slice_bounds-row-end
-slice_bounds-row-end g c =
-    let a = c.args.accounts.now in
-    let p : c.row_start-start.result + a.members ≤ length c.args.file.now = omega (arith, row_fits a.members c.month-month.result c.args.component c.requires.component, c.row_start-start.ensures, c.requires.file) in
-    p
 
 pub returns : goal.returns
 returns g c =
     let a = c.args.accounts.now in
     let book = c.args.book.now in
-    let b = reading (g.B.Book.month book) (g.B.Book.count book) (g.B.Book.held book) in
+    let b = reading_of g.B.Book book in
     let i = c.args.component in
     let month = c.month-month.result in
     let start = c.row_start-start.result in
@@ -27,6 +21,6 @@ returns g c =
     let eb = to_z-of_z w64 (account_at a i).balance (search rules) in
     let es = c.row_start-start.ensures ∙ ap (λ m. row_at a.members m i) em in
     record {
-      told = lines_told sh a c.args.file.now b i _ _ start k ep eb es (omega arith) _ c.resettle_members.ensures.told;
-      done = lines_done sh a c.args.file.now b i _ _ start k ep eb es (omega arith) c.resettle_members.result c.resettle_members.new.lines c.args.statement.now c.resettle_members.new.cells (omega (arith, c.resettle_members.auto.lines)) c.resettle_members.ensures.done;
+      told = lines_told sh a c.args.file.now b i _ _ start k ep eb es (omega arith) _ c.resettle_row.ensures.told;
+      done = lines_done sh a c.args.file.now b i _ _ start k ep eb es (omega arith) c.resettle_row.result c.resettle_row.new.lines c.args.statement.now c.resettle_row.new.cells (omega (arith, c.resettle_row.auto.lines)) c.resettle_row.ensures.done;
     }

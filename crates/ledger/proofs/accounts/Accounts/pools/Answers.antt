@@ -12,7 +12,7 @@ loop-component-preserved c =
     let costs = c.args.costs in
     let s = c.args.self.now in
     let i = c.loop-component.component in
-    let e : length costs ≡ length s.rows = omega (arith, c.requires.long) in
+    let e : length costs ≡ length s.rows = search rules in
     let z = to_z-of_z w64 (get_or costs i (pos 0)) (search rules) in
     let p = to_z-of_z w64 c.pool.result (record { sfits = c.pool.type_inv }) in (
       simp length-set c.loop-component.invariant.0,
@@ -24,5 +24,5 @@ pub returns : goal.returns
 returns c =
     let costs = c.args.costs in
     let s = c.args.self.now in
-    let e : length costs ≡ length s.rows = omega (arith, c.requires.long) in
+    let e : length costs ≡ length s.rows = search rules in
     front_end (pos 0) (sums costs (balances s)) c.loop-component.pools c.loop-component.component (omega (arith, pools_length costs s e)) (omega arith) c.loop-component.invariant.1

@@ -1,9 +1,9 @@
-use Rattle.std.proofs.Common.{◌≡◌, ℕ, ◌<◌, ◌≤◌, List, length, get_or, nat_abs, Ok, sym, refl, ap, ◌∙◌, subst, arith, rules}
+use Rattle.std.proofs.Common.{◌≡◌, ℕ, ◌<◌, ◌≤◌, List, length, get_or, nat_abs, Ok, sym, ap, ◌∙◌, subst, arith, rules}
 use Rattle.refusal.specs.Answers.{Told, done, next, after}
 use Rattle.cents.specs.Cutting.{sum_z}
 use Rattle.tariff.specs.Heads.{sums}
 use Rattle.charges_text.specs.declared.charges.ComponentCharge.{ComponentCharge}
-use Rattle.ledger.specs.Readings.{reading, rows_read}
+use Rattle.ledger.specs.Readings.{reading_of, rows_read}
 use Rattle.ledger.specs.Standings.{standing, balances}
 use Rattle.ledger.specs.Billing.{Left}
 use Rattle.ledger.proofs.Lawful.{LawfulRule}
@@ -12,22 +12,14 @@ use Rattle.ledger.proofs.Billed.{bill_done, bill_charges, bill_cells, bill_stand
 use Rattle.ledger.proofs.BillKeeps.{bill_keeps}
 use Rattle.ledger.proofs.Closed.{no_charge}
 use Rattle.ledger.proofs.Passed.{bill_passed, rows_length}
-use Rattle.ledger.proofs.Rests.{components_length, closed_long, closed_slots, closed_small, rests_small}
+use Rattle.ledger.proofs.Rests.{components_length, closed_slots, closed_small, rests_small}
 use Rattle.ledger.proofs.ledger.Ledger.bill.Goals as goal
-
-pub close-requires : goal.close-requires
-close-requires g c =
-    let self = c.args.self.now in
-    let book = c.args.book.now in
-    let b = reading (g.B.Book.month book) (g.B.Book.count book) (g.B.Book.held book) in
-    let p = bill_passed self.accounts (sums c.costs-costs.result (balances self.accounts)) b (length c.args.file.now) (length c.args.statement.now) (g.met.B.Book.peopled book).0 (g.met.B.Book.peopled book).1 c.in_ok-charges.ensures.told in
-    record { long = self.long; slots = self.slots; month = omega (arith, p.month, (g.met.B.Book.dated book).1) }
 
 pub invariant_of-self-2 : goal.invariant_of-self-2
 invariant_of-self-2 g c =
     let self = c.args.self.now in
     let book = c.args.book.now in
-    let b = reading (g.B.Book.month book) (g.B.Book.count book) (g.B.Book.held book) in
+    let b = reading_of g.B.Book book in
     let pools = sums c.costs-costs.result (balances self.accounts) in
     let sh = g.R.Rule.shares self.rule in
     let p = bill_passed self.accounts pools b (length c.args.file.now) (length c.args.statement.now) (g.met.B.Book.peopled book).0 (g.met.B.Book.peopled book).1 c.in_ok-charges.ensures.told in
@@ -40,18 +32,16 @@ invariant_of-self-2 g c =
     record {
       peopled = (self.peopled.0, self.peopled.1);
       dated = (self.dated.0, omega (arith, self.dated.1), omega (arith, p.month, (g.met.B.Book.dated book).1));
-      long = closed_long charges self.accounts lc self.long;
-      slots = closed_slots charges self.accounts lc self.long self.slots;
-      small = closed_small charges self.accounts lc self.long 4000000000 small;
+      slots = closed_slots charges self.accounts lc (search rules) self.slots;
+      small = closed_small charges self.accounts lc (search rules) 4000000000 small;
     }
     )
 
-pub returns : goal.returns
-returns g c =
+pub returns-clause-law : goal.returns-clause-law
+returns-clause-law g c =
     let self = c.args.self.now in
-    let a = self.accounts in
     let book = c.args.book.now in
-    let b = reading (g.B.Book.month book) (g.B.Book.count book) (g.B.Book.held book) in
+    let b = reading_of g.B.Book book in
     let sh = g.R.Rule.shares self.rule in
     let cut = cut_by self.sheet in
     let file = c.args.file.now in
@@ -71,10 +61,4 @@ returns g c =
     let rule : LawfulRule (terms_of g.R.Rule.shares g.R.Rule.STEP self) = record { stepped = g.met.R.Rule.stepped; long = g.met.R.Rule.long self.rule; idle = g.met.R.Rule.idle self.rule; fair = g.met.R.Rule.fair self.rule } in
     let whole = ap sum_z (sym value) ∙ c.costs-costs.ensures.whole in
     let thirteen : length (cut self.heads.amounts) ≡ 13 = ap length (sym value) ∙ search rules in
-    record {
-      told = told;
-      standing = stands;
-      cells = cells;
-      same = (refl, refl);
-      law = λ h k. bill_keeps (terms_of g.R.Rule.shares g.R.Rule.STEP self) rule h s (standing c.zero-self.result.amounts c.close.new.self c.charge_book.new.file) b memory c.charge_book.new.statement (Ok charges) (g.met.B.Book.peopled book).0 (g.met.B.Book.peopled book).1 whole thirteen self.long self.slots told stands cells k;
-    }
+    λ h k. bill_keeps (terms_of g.R.Rule.shares g.R.Rule.STEP self) rule h s (standing c.zero-self.result.amounts c.close.new.self c.charge_book.new.file) b memory c.charge_book.new.statement (Ok charges) (g.met.B.Book.peopled book).0 (g.met.B.Book.peopled book).1 whole thirteen (search rules) self.slots told stands cells k

@@ -1,11 +1,10 @@
-use Rattle.std.proofs.Common.{◌≡◌, ℕ, ◌+◌, ◌-◌, ◌≤◌, true, List, length, ℤ, nat_abs, Ok, Err, sym, refl, ap, ◌∙◌, subst, w64, rules}
-use Rattle.std.proofs.lemmas.List.{length-set}
+use Rattle.std.proofs.Common.{◌≡◌, ℕ, ◌+◌, ◌-◌, ◌≤◌, true, List, length, ℤ, nat_abs, Ok, sym, ap, ◌∙◌, subst, w64, rules}
 use Rattle.std.proofs.lemmas.Int.{to_z-of_z}
-use Rattle.refusal.specs.Answers.{Told, done, answer, bare, after}
+use Rattle.refusal.specs.Answers.{Told, done, bare, after}
 use Rattle.ledger.specs.declared.account.Account.{Account}
 use Rattle.ledger.specs.declared.accounts.Accounts.{Accounts}
 use Rattle.ledger.specs.declared.line.Line.{Line}
-use Rattle.ledger.specs.Readings.{reading, units_read}
+use Rattle.ledger.specs.Readings.{reading_of, units_read}
 use Rattle.ledger.specs.Standings.{standing, account_at, is_on_file}
 use Rattle.ledger.specs.Billing.{Left, memory_rule}
 use Rattle.ledger.specs.Resettling.{reconciled, lines_at, shares_again, change_rule, settled}
@@ -13,7 +12,6 @@ use Rattle.ledger.proofs.Resettled.{change_passed, settled_all, reconciled_place
 use Rattle.ledger.proofs.ResettlementKeeps.{resettle_keeps}
 use Rattle.ledger.proofs.Lawful.{LawfulRule}
 use Rattle.ledger.specs.Ledgers.{standing_of, terms_of}
-use Rattle.std.proofs.lemmas.Result.{err_from_is_err_and}
 use Rattle.ledger.proofs.ledger.Ledger.resettle.Goals as goal
 
 pub invariant_of-self-2 : goal.invariant_of-self-2
@@ -25,7 +23,7 @@ invariant_of-self-2 g c =
     let left = c.in_ok-left.left in
     let z = to_z-of_z w64 left (search rules) in
     let book = c.args.book.now in
-    let b = reading (g.B.Book.month book) (g.B.Book.count book) (g.B.Book.held book) in
+    let b = reading_of g.B.Book book in
     let i = c.args.component - 1 in
     let small = (change_passed (i + 1) (units_read b i) (shares_again (g.R.Rule.shares self.rule) a b i) (account_at a i).balance (lines_at a c.args.file.now b i) left c.in_ok-left.ensures.told).3 in
     let e = c.settle.ensures ∙ ap (λ (x : ℤ). settled (c.args.component - 1) x a) z in
@@ -33,20 +31,19 @@ invariant_of-self-2 g c =
     record {
       peopled = (self.peopled.0, self.peopled.1);
       dated = (self.dated.0, self.dated.1, self.dated.2);
-      long = length-set a.rows (c.args.component - 1) _ ∙ self.long;
-      slots = λ d l. settled_all (c.args.component - 1) left a p.0 self.long (λ (x : Account). length x.pools ≡ 6) (self.slots (c.args.component - 1) p.0) d (self.slots d l);
-      small = λ d. settled_all (c.args.component - 1) left a p.0 self.long (λ (x : Account). nat_abs x.balance ≤ 4000000000) small d (self.small d);
+      slots = λ d l. settled_all (c.args.component - 1) left a p.0 (search rules) (λ (x : Account). length x.pools ≡ 6) (self.slots (c.args.component - 1) p.0) d (self.slots d l);
+      small = λ d. settled_all (c.args.component - 1) left a p.0 (search rules) (λ (x : Account). nat_abs x.balance ≤ 4000000000) small d (self.small d);
     }
     )
 
-pub returns : goal.returns
-returns g c =
+pub returns-clause-law : goal.returns-clause-law
+returns-clause-law g c =
     let self = c.args.self.now in
     let a = self.accounts in
     let file = c.args.file.now in
     let memory = c.args.statement.now in
     let book = c.args.book.now in
-    let b = reading (g.B.Book.month book) (g.B.Book.count book) (g.B.Book.held book) in
+    let b = reading_of g.B.Book book in
     let sh = g.R.Rule.shares self.rule in
     let s = standing_of self file in
     let component = c.args.component in
@@ -67,45 +64,4 @@ returns g c =
     let told = ap bare d in
     let stands = ap (λ (x : Accounts). standing self.heads.amounts x c.resettle_lines.new.file) e ∙ ap (λ (f : List Line). standing self.heads.amounts (settled i left a) f) q.0 ∙ ap (λ (t : Told Left). after t (λ left. left.standing) s) d in
     let cells = q.1 ∙ ap (λ (t : Told Left). after t (λ left. left.cells) memory) d in
-    record {
-      told = told;
-      standing = stands;
-      cells = cells;
-      same = (refl, refl);
-      law = λ h k. resettle_keeps (terms_of g.R.Rule.shares g.R.Rule.STEP self) rule h s new b component memory c.resettle_lines.new.statement (Ok tt) self.long told stands cells k;
-    }
-
-pub returns-in_err-left : goal.returns-in_err-left
-returns-in_err-left g c =
-    let self = c.args.self.now in
-    let a = self.accounts in
-    let file = c.args.file.now in
-    let memory = c.args.statement.now in
-    let book = c.args.book.now in
-    let b = reading (g.B.Book.month book) (g.B.Book.count book) (g.B.Book.held book) in
-    let sh = g.R.Rule.shares self.rule in
-    let s = standing_of self file in
-    let component = c.args.component in
-    let i = component - 1 in
-    let r : reconciled component ≡ true = sym c.if-not-is_reconciled.ensures in
-    let p = reconciled_place component r in
-    let m : done tt ≡ memory_rule a.members (length file) (length memory) a.members b.count = c.in_ok-check_memory.ensures ∙ ap (memory_rule a.members (length file) (length memory) a.members) c.members.ensures in
-    let o : is_on_file a b.month ≡ true = sym (c.if-not-is_on_file.ensures ∙ ap (is_on_file a) c.month.ensures) in
-    let rule : LawfulRule (terms_of g.R.Rule.shares g.R.Rule.STEP self) = record { stepped = g.met.R.Rule.stepped; long = g.met.R.Rule.long self.rule; idle = g.met.R.Rule.idle self.rule; fair = g.met.R.Rule.fair self.rule } in
-    let change : ℕ → Told ℤ = λ n. change_rule n (units_read b i) (shares_again sh a b i) (account_at a i).balance (lines_at a file b i) in
-    let f = err_from_is_err_and c.from_residual-in_err-left.result c.from_residual-in_err-left.ensures.1 in
-    let fault = c.in_err-left.field-0.0 in
-    let h = subst (λ (n : ℕ). answer {T = ℤ} (Err fault) ≡ change n) p.1 c.in_err-left.ensures.told in
-    let d = resettle_is sh s b component (length memory) (answer {T = ℤ} (Err fault)) r m o h in
-    let q = c.in_err-left.ensures.done in
-    let new = standing self.heads.amounts a c.resettle_lines.new.file in
-    let told = ap bare d in
-    let stands = ap (λ (f : List Line). standing self.heads.amounts a f) q.0 ∙ ap (λ (t : Told Left). after t (λ left. left.standing) s) d in
-    let cells = q.1 ∙ ap (λ (t : Told Left). after t (λ left. left.cells) memory) d in
-    rw (f.1, f.2) (record {
-      told = told;
-      standing = stands;
-      cells = cells;
-      same = (refl, refl);
-      law = λ h k. resettle_keeps (terms_of g.R.Rule.shares g.R.Rule.STEP self) rule h s new b component memory c.resettle_lines.new.statement (Err fault) self.long told stands cells k;
-    })
+    λ h k. resettle_keeps (terms_of g.R.Rule.shares g.R.Rule.STEP self) rule h s new b component memory c.resettle_lines.new.statement (Ok tt) (search rules) told stands cells k

@@ -37,7 +37,7 @@ module _ (g : given.Over) (c : goal.After-sum_of g) where
   unfolding us ss
   small =
       let l = g.met.R.Rule.long c.args.rule.now pool us in
-      let f = front_small g.R.Rule.step pool us ss g.met.R.Rule.stepped l (g.met.R.Rule.idle c.args.rule.now pool us) (g.met.R.Rule.fair c.args.rule.now pool us) 200 in
+      let f = front_small g.R.Rule.STEP pool us ss g.met.R.Rule.stepped l (g.met.R.Rule.idle c.args.rule.now pool us) (g.met.R.Rule.fair c.args.rule.now pool us) 200 in
       rw (take_all 200 ss (omega (arith, l, length-map c.args.self.now.units.rows.now (λ row. get_or row (kind_of c.args.component) 0), c.args.self.now.units.few))) at f
 
 pub overflow_sub-balance : goal.overflow_sub-balance
