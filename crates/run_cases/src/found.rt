@@ -26,10 +26,13 @@ impl Found {
 
     /// Puts each component's pool, units and balance.
     fn put_charges(&mut self, charges: [ComponentCharge; 13]) -> Result<(), AllocError> {
-        for charge in charges {
-            self.put(&[charge.pool, i64::from(charge.units), charge.balance])?;
-        }
-        Ok(())
+        self.numbers.extend(
+            charges.iter().flat_map(|charge| [
+                charge.pool,
+                i64::from(charge.units),
+                charge.balance,
+            ]),
+        )
     }
 
     /// Puts an ending: 0 booked, 1 billed, 2 resettled, 3 refused; then refusal, layer and place, and
@@ -68,10 +71,10 @@ impl Found {
     }
 
     fn put_file(&mut self, file: &[Line]) -> Result<(), AllocError> {
-        for line in file {
-            self.put(&[i64::from(line.units), line.cents])?;
-        }
-        Ok(())
+        self.numbers.extend(
+            file.iter()
+                .flat_map(|line| [i64::from(line.units), line.cents]),
+        )
     }
 
     /// Puts how the last order ended and its part of the statements; nothing where there is none.
