@@ -39,6 +39,7 @@ fn run_orders<R: Rule, B: Book>(
     ensures same { (ledger.new.rule ≡ ledger.old.rule) × (ledger.new.sheet ≡ ledger.old.sheet) }
 {
     let width = 13 * ledger.members() as usize;
+    // zipped chunks would tell nothing of the statements afterwards, so an order's cells go by its place
     for (i, order) in orders.iter().enumerate() {
         let start = i * width;
         let end = start + width;
