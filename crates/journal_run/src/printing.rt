@@ -4,7 +4,8 @@ use charges_text::printer::charges_text;
 use charges_text::refusals::refusal_text;
 use journal_text::entry::{Action, Entry};
 use month_text::month::Month;
-use runs::outcome::Outcome;
+use refusal::Fault;
+use runs::done::Done;
 use statement::month::member_charges;
 use std::alloc::{AllocError, Global};
 
@@ -62,15 +63,15 @@ fn resettled_text(
 pub(crate) fn order_text(
     heap: Global,
     entry: &Entry,
-    outcome: Outcome,
+    outcome: Result<Done, Fault>,
     cells: &[i64],
 ) -> Result<String, AllocError> {
     match (outcome, entry.action) {
-        (Outcome::Billed(components), _) => bill_text(heap, &entry.month, components, cells),
-        (Outcome::Resettled, Action::Resettle(component)) => {
+        (Ok(Done::Billed(components)), _) => bill_text(heap, &entry.month, components, cells),
+        (Ok(Done::Resettled), Action::Resettle(component)) => {
             resettled_text(heap, component, &entry.month, cells)
         }
-        (Outcome::Refused(fault), _) => refusal_text(heap, fault),
+        (Err(fault), _) => refusal_text(heap, fault),
         _ => Ok(String::new(heap)),
     }
 }

@@ -5,8 +5,8 @@ use ledger::ledger::Ledger;
 use ledger::line::Line;
 use month_text::month::{Month, RuleName};
 use refusal::{Fault, Layer, Refusal};
+use runs::done::Done;
 use runs::order::Order;
-use runs::outcome::Outcome;
 use runs::run::run;
 use sharing::posted::Posted;
 use sharing::ratio::Ratio;
@@ -18,7 +18,7 @@ use tariff::sheet::Sheet;
 #[derive(Drop)]
 pub(crate) struct Ran {
     pub members: usize,
-    pub outcomes: Vec<Outcome>,
+    pub outcomes: Vec<Result<Done, Fault>>,
     pub statements: Vec<i64>,
     pub balances: [i64; 13],
     pub waiting: [i64; 6],
@@ -26,7 +26,7 @@ pub(crate) struct Ran {
 
 impl Ran {
     /// The outcome of an order and its statement's cells.
-    pub(crate) fn order(&self, place: usize) -> Option<(Outcome, &[i64])> {
+    pub(crate) fn order(&self, place: usize) -> Option<(Result<Done, Fault>, &[i64])> {
         let width = self.members.checked_mul(13)?;
         let start = place.checked_mul(width)?;
         let end = start.checked_add(width)?;
@@ -60,7 +60,7 @@ fn run_by<R: Rule + Copy + Drop>(
     let blank = Line { units: 0, cents: 0 };
     let mut file = vec![in heap; blank; 6 * 13 * members]?;
     let mut statements = vec![in heap; 0i64; cells]?;
-    let mut outcomes = vec![in heap; Outcome::Booked; orders.len()]?;
+    let mut outcomes = vec![in heap; Ok(Done::Booked); orders.len()]?;
     let mut ledger = Ledger::blank(rule);
     run(
         &mut ledger,

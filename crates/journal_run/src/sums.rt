@@ -1,7 +1,8 @@
 //! The sums that a journal ends with.
 use cents::totals::sum_of;
 use journal_text::entry::Entry;
-use runs::outcome::Outcome;
+use refusal::Fault;
+use runs::done::Done;
 use std::alloc::{AllocError, Global};
 
 /// All cents booked, and all cents billed. A journal is too short for either to reach the end of its type.
@@ -13,15 +14,15 @@ pub(crate) struct Sums {
 
 impl Sums {
     /// Adds what an order booked or billed; a refused one did neither.
-    pub(crate) fn add(&mut self, entry: &Entry, outcome: Outcome, cells: &[i64]) {
+    pub(crate) fn add(&mut self, entry: &Entry, outcome: Result<Done, Fault>, cells: &[i64]) {
         match outcome {
-            Outcome::Booked => self.booked = self.booked.saturating_add(sum_of(&entry.month.cost)),
-            Outcome::Billed(_) => self.billed = self.billed.saturating_add(sum_of(cells)),
-            Outcome::Resettled => {
+            Ok(Done::Booked) => self.booked = self.booked.saturating_add(sum_of(&entry.month.cost)),
+            Ok(Done::Billed(_)) => self.billed = self.billed.saturating_add(sum_of(cells)),
+            Ok(Done::Resettled) => {
                 let changed = cells.get(0..entry.month.count).unwrap_or(&[]);
                 self.billed = self.billed.saturating_add(sum_of(changed));
             }
-            Outcome::Refused(_) => {}
+            Err(_) => {}
         }
     }
 

@@ -7,7 +7,7 @@ mod stored;
 
 use crate::found::found_after;
 use crate::numbers::{Numbers, numbers_of};
-use crate::stored::{StoredRun, run_of};
+use crate::stored::{RuleName, StoredRun, run_of};
 use sharing::posted::Posted;
 use sharing::ratio::Ratio;
 use sharing::rule::Rule;
@@ -17,41 +17,23 @@ use std::fs;
 /// The runs are stored as 01.txt, 01.out, 02.txt and so on.
 const COUNT: u32 = 16;
 
-/// The numbers after those in front, where they are in front.
-fn after<'a>(numbers: &'a [i64], front: &[i64]) -> Option<&'a [i64]> {
-    let end = front.len();
-    if end > numbers.len() || &numbers[0..end] != front {
-        return None;
-    }
-    Some(&numbers[end..])
-}
-
-/// How many steps are found as they are stored, from the first on; a step is one order more.
-fn agreeing_steps<R: Rule + Copy + Drop>(
+/// The first step that is not found as it is stored, if any; a step is one order more.
+fn differing_step<R: Rule + Copy + Drop>(
     heap: Global,
     rule: R,
     stored: &StoredRun,
     wanted: &[i64],
-) -> anyhow::Result<usize> {
+) -> anyhow::Result<Option<usize>> {
     let mut rest = wanted;
-    for count in 0..stored.orders.len() {
-        let found = found_after(heap, rule, stored, count)?;
-        match after(rest, found.as_slice()) {
-            Some(others) => rest = others,
-            None => return Ok(count),
-        }
+    for step in 0..=stored.orders.len() {
+        let found = found_after(heap, rule, stored, step)?;
+        let Some(others) = rest.strip_prefix(found.as_slice()) else {
+            return Ok(Some(step));
+        };
+        rest = others;
     }
-    let last = found_after(heap, rule, stored, stored.orders.len())?;
-    if rest != last.as_slice() {
-        return Ok(stored.orders.len());
-    }
-    Ok(stored.orders.len().saturating_add(1))
-}
-
-/// The numbers of a stored file.
-fn read(rt: &HostRuntime, name: &str) -> anyhow::Result<Vec<i64>> {
-    let text = fs::read(rt, name)?;
-    Ok(numbers_of(rt.alloc(), text.as_slice())?)
+    // numbers that are left belong to the last step
+    Ok((!rest.is_empty()).then_some(stored.orders.len()))
 }
 
 /// Carries out one run step by step; says whether all agree.
@@ -59,28 +41,27 @@ fn agrees(rt: &HostRuntime, number: u32) -> anyhow::Result<bool> {
     let heap = rt.alloc();
     let run_name = format!(in heap; "{number:02}.txt")?;
     let found_name = format!(in heap; "{number:02}.out")?;
-    let all = read(rt, run_name.as_str())?;
-    let wanted = read(rt, found_name.as_str())?;
-    let stored = run_of(heap, &mut Numbers::new(all.as_slice()))?;
-    let steps = if stored.ratio {
-        agreeing_steps(heap, Ratio, &stored, wanted.as_slice())?
-    } else {
-        agreeing_steps(heap, Posted, &stored, wanted.as_slice())?
+    let run_text = fs::read_to_string(rt, run_name.as_str())?;
+    let found_text = fs::read_to_string(rt, found_name.as_str())?;
+    let stored = run_of(heap, &mut Numbers::new(run_text.as_str()))?;
+    let wanted = numbers_of(heap, found_text.as_str())?;
+    let differing = match stored.rule {
+        RuleName::Posted => differing_step(heap, Posted, &stored, wanted.as_slice())?,
+        RuleName::Ratio => differing_step(heap, Ratio, &stored, wanted.as_slice())?,
     };
-    if steps > stored.orders.len() {
-        println!(rt; "{number:02}: {steps} steps agree")?;
-        return Ok(true);
+    if let Some(step) = differing {
+        println!(rt; "{number:02}: step {step} differs")?;
+        return Ok(false);
     }
-    println!(rt; "{number:02}: step {steps} differs")?;
-    Ok(false)
+    let steps = stored.orders.len().saturating_add(1);
+    println!(rt; "{number:02}: {steps} steps agree")?;
+    Ok(true)
 }
 
 fn main(rt: HostRuntime) -> anyhow::Result<()> {
     let mut agreeing = 0u32;
-    for place in 0..COUNT {
-        if agrees(&rt, place + 1)? {
-            agreeing += 1;
-        }
+    for number in 1..=COUNT {
+        agreeing += u32::from(agrees(&rt, number)?);
     }
     println!(rt; "{agreeing} of {COUNT} runs agree")?;
     Ok(())

@@ -5,12 +5,20 @@ use bottom_books::table_book::TableBook;
 use ledger::line::Line;
 use runs::order::{Costs, Order};
 use std::alloc::Global;
+use std::array;
 use tariff::sheet::Sheet;
+
+/// The sharing rule of a ledger.
+#[derive(Clone, Copy)]
+pub enum RuleName {
+    Posted,
+    Ratio,
+}
 
 /// What a run is made from.
 #[derive(Drop)]
 pub struct StoredRun {
-    pub ratio: bool,
+    pub rule: RuleName,
     pub members: u32,
     pub first: u32,
     pub sheet: Sheet,
@@ -25,95 +33,72 @@ impl StoredRun {
     }
 }
 
+/// Takes the rule, which the file has by a number.
+fn rule_of(numbers: &mut Numbers<'_>) -> anyhow::Result<RuleName> {
+    match numbers.next::<u32>()? {
+        0 => Ok(RuleName::Posted),
+        1 => Ok(RuleName::Ratio),
+        _ => Err(anyhow!("a stored rule is of no sort")),
+    }
+}
+
 /// Takes the twelve weights of a sheet.
 fn sheet_of(numbers: &mut Numbers<'_>) -> anyhow::Result<Sheet> {
-    let division = [
-        numbers.count()?,
-        numbers.count()?,
-        numbers.count()?,
-        numbers.count()?,
-        numbers.count()?,
-        numbers.count()?,
-    ];
-    let management = [
-        numbers.count()?,
-        numbers.count()?,
-        numbers.count()?,
-        numbers.count()?,
-    ];
-    let split = [numbers.count()?, numbers.count()?];
+    let division = array::try_from_fn(|_| numbers.next())?;
+    let management = array::try_from_fn(|_| numbers.next())?;
+    let split = array::try_from_fn(|_| numbers.next())?;
     let mut sheet = Sheet::even();
-    match sheet.lay(division, management, split) {
-        Ok(()) => Ok(sheet),
-        Err(_) => Err(anyhow!("a stored sheet is refused")),
-    }
+    sheet
+        .lay(division, management, split)
+        .map_err(|_| anyhow!("a stored sheet is refused"))?;
+    Ok(sheet)
+}
+
+/// Takes a line of the file.
+fn line_of(numbers: &mut Numbers<'_>) -> anyhow::Result<Line> {
+    let units = numbers.next()?;
+    let cents = numbers.next()?;
+    Ok(Line { units, cents })
 }
 
 /// Takes the lines of the file.
 fn file_of(heap: Global, numbers: &mut Numbers<'_>) -> anyhow::Result<Vec<Line>> {
-    let mut file = Vec::new(heap);
-    for _ in 0..numbers.count()? {
-        let units = numbers.count()?;
-        let cents = numbers.next()?;
-        file.push(Line { units, cents })?;
-    }
-    Ok(file)
+    let count = numbers.next::<u32>()?;
+    (0..count).map(|_| line_of(numbers)).try_collect(heap)
 }
 
-/// Takes one member's units of the seven kinds.
-fn row_of(numbers: &mut Numbers<'_>) -> anyhow::Result<[u32; 7]> {
-    Ok([
-        numbers.count()?,
-        numbers.count()?,
-        numbers.count()?,
-        numbers.count()?,
-        numbers.count()?,
-        numbers.count()?,
-        numbers.count()?,
-    ])
-}
-
-/// Takes the units of all members.
+/// Takes the units of all members, of seven kinds each.
 fn rows_of(heap: Global, numbers: &mut Numbers<'_>) -> anyhow::Result<Vec<[u32; 7]>> {
-    let mut rows = Vec::new(heap);
-    for _ in 0..numbers.count()? {
-        rows.push(row_of(numbers)?)?;
-    }
-    Ok(rows)
+    let count = numbers.next::<u32>()?;
+    (0..count)
+        .map(|_| array::try_from_fn(|_| numbers.next()))
+        .try_collect(heap)
 }
 
 /// Takes a book: its month and the units of its members.
 fn book_of(heap: Global, numbers: &mut Numbers<'_>) -> anyhow::Result<TableBook> {
-    let month = numbers.count()?;
+    let month = numbers.next()?;
     let rows = rows_of(heap, numbers)?;
     let mut book = TableBook::blank();
-    match book.fill(month, rows.as_slice()) {
-        Ok(()) => Ok(book),
-        Err(_) => Err(anyhow!("a stored book is refused")),
-    }
+    book.fill(month, rows.as_slice())
+        .map_err(|_| anyhow!("a stored book is refused"))?;
+    Ok(book)
 }
 
 /// Takes a control total and the amounts of the six heads.
 fn costs_of(numbers: &mut Numbers<'_>) -> anyhow::Result<Costs> {
     let control = numbers.next()?;
-    let amounts = [
-        numbers.next()?,
-        numbers.next()?,
-        numbers.next()?,
-        numbers.next()?,
-        numbers.next()?,
-        numbers.next()?,
-    ];
+    let amounts = array::try_from_fn(|_| numbers.next())?;
     Ok(Costs { control, amounts })
 }
 
-/// Takes one order.
+/// Takes one order, whose sort the file has by a number.
 fn order_of(heap: Global, numbers: &mut Numbers<'_>) -> anyhow::Result<Order<TableBook>> {
-    match numbers.count()? {
+    match numbers.next::<u32>()? {
         0 => Ok(Order::Book(costs_of(numbers)?)),
         1 => Ok(Order::Bill(book_of(heap, numbers)?)),
         2 => {
-            let component = numbers.count()?;
+            let component = numbers.next()?;
             Ok(Order::Resettle(component, book_of(heap, numbers)?))
         }
         _ => Err(anyhow!("a stored order is of no sort")),
@@ -122,27 +107,20 @@ fn order_of(heap: Global, numbers: &mut Numbers<'_>) -> anyhow::Result<Order<Tab
 
 /// Takes the orders.
 fn orders_of(heap: Global, numbers: &mut Numbers<'_>) -> anyhow::Result<Vec<Order<TableBook>>> {
-    let mut orders = Vec::new(heap);
-    for _ in 0..numbers.count()? {
-        orders.push(order_of(heap, numbers)?)?;
-    }
-    Ok(orders)
+    let count = numbers.next::<u32>()?;
+    (0..count)
+        .map(|_| order_of(heap, numbers))
+        .try_collect(heap)
 }
 
 /// Takes a whole run.
 pub(crate) fn run_of(heap: Global, numbers: &mut Numbers<'_>) -> anyhow::Result<StoredRun> {
-    let ratio = numbers.count()? == 1;
-    let members = numbers.count()?;
-    let first = numbers.count()?;
-    let sheet = sheet_of(numbers)?;
-    let file = file_of(heap, numbers)?;
-    let orders = orders_of(heap, numbers)?;
     Ok(StoredRun {
-        ratio,
-        members,
-        first,
-        sheet,
-        file,
-        orders,
+        rule: rule_of(numbers)?,
+        members: numbers.next()?,
+        first: numbers.next()?,
+        sheet: sheet_of(numbers)?,
+        file: file_of(heap, numbers)?,
+        orders: orders_of(heap, numbers)?,
     })
 }

@@ -1,16 +1,18 @@
 -- A run, order by order.
-use Rattle.std.proofs.Common.{◌≡◌, ℕ, zero, suc, ◌+◌, ◌*◌, ◌<◌, ◌≤◌, List, [], ◌∷◌, ◌++◌, map, length, get_or, take, drop, set, ℤ, sym, refl, ap, ◌∙◌, subst, ⊎_elim, mul-le-mul_right, arith}
+use Rattle.std.proofs.Common.{◌≡◌, ℕ, ◌+◌, ◌*◌, ◌<◌, ◌≤◌, List, [], ◌∷◌, ◌++◌, length, get_or, take, drop, set, ℤ, Ok, Result, sym, refl, ap, ◌∙◌, subst, ⊎_elim, mul-le-mul_right, arith}
 use borrow.Rule.Slice.PartMut.{put_mid}
-use Rattle.std.proofs.lemmas.List.{take_more, take_all, take_at, drop_at, drop-take, length-take-le, get_or-set_same, get_or-set_other}
+use Rattle.std.proofs.lemmas.List.{take_more, take_at, drop_at, drop-take, length-take-le, get_or-set_same, get_or-set_other}
 use Rattle.std.proofs.lemmas.Slice.{take-put_mid_below, drop-put_mid}
 use Rattle.std.proofs.lemmas.Bool.{cases_eq}
+use Rattle.refusal.specs.Answers.{answer}
+use Rattle.refusal.specs.declared.Fault.{Fault}
 use Rattle.ledger.specs.Files.{part}
 use Rattle.ledger.specs.Standings.{Standing}
 use Rattle.ledger.specs.Kept.{Terms, Kept}
-use Rattle.runs.specs.declared.outcome.Outcome.{Outcome}
-use Rattle.runs.specs.declared.outcome.Outcome.TheVariants as outcome
-use Rattle.runs.specs.Orders.{Deed, World, reached, run_through, cells_after, answer_of, outcome_told, standing_after, history_after, CarriedOut}
-use Rattle.runs.specs.Runs.{no_deed, before, Ran}
+use Rattle.runs.specs.declared.done.Done.{Done}
+use Rattle.runs.specs.declared.done.Done.TheVariants as ended
+use Rattle.runs.specs.Orders.{Deed, World, reached, run_through, cells_after, answer_of, standing_after, history_after, CarriedOut}
+use Rattle.runs.specs.Runs.{no_deed, before}
 
 pub run_more : (t : Terms) (w : World) (deeds : List Deed) (d : Deed) → run_through t w (deeds ++ d ∷ []) ≡ reached t (run_through t w deeds) d
 run_more t w [] d = refl
@@ -34,27 +36,23 @@ module _ {X : Type 0} (w : ℕ) (xs row : List X) (i : ℕ) (fits : i * w + w �
       let m = mul-le-mul_right w v in
       ap (take w) (drop-put_mid (i * w) w xs row (j * w) (omega (arith, m)) (omega (arith, fits)) long)
 
-pub record Running (t : Terms) (w : World) (deeds : List Deed) (i : ℕ) (outcomes : List Outcome) (memory cells : List ℤ) (s : Standing) : Type 0 where
+pub record Running (t : Terms) (w : World) (deeds : List Deed) (i : ℕ) (outcomes : List (Result Done Fault)) (memory cells : List ℤ) (s : Standing) : Type 0 where
   pub stands : s ≡ before t w deeds i
   pub kept : Kept t (run_through t w (take i deeds)).history s
-  pub outcome : (j : ℕ) → j < i → outcome_told (get_or outcomes j outcome.Booked) ≡ answer_of t (before t w deeds j) (get_or deeds j no_deed)
+  pub outcome : (j : ℕ) → j < i → answer (get_or outcomes j (Ok ended.Booked)) ≡ answer_of t (before t w deeds j) (get_or deeds j no_deed)
   pub cell : (j : ℕ) → j < i → part (j * (13 * t.members)) (13 * t.members) cells ≡ cells_after t (before t w deeds j) (get_or deeds j no_deed) (part (j * (13 * t.members)) (13 * t.members) memory)
   pub rest : (j : ℕ) → i ≤ j → part (j * (13 * t.members)) (13 * t.members) cells ≡ part (j * (13 * t.members)) (13 * t.members) memory
 
-pub running_none : (t : Terms) (s : Standing) (deeds : List Deed) (outcomes : List Outcome) (memory : List ℤ) → Kept t [] s → Running t (record { stands = s; history = [] }) deeds 0 outcomes memory memory s
-running_none t s deeds outcomes memory k =
-    record { stands = refl; kept = k; outcome = λ j l. absurd (omega arith); cell = λ j l. absurd (omega arith); rest = λ j l. refl }
-
 -- one order more
-pub running_more : (t : Terms) (w : World) (deeds : List Deed) (i : ℕ) (outcomes : List Outcome) (memory cells row : List ℤ) (s s' : Standing) (d : Deed) (o : Outcome)
+pub running_more : (t : Terms) (w : World) (deeds : List Deed) (i : ℕ) (outcomes : List (Result Done Fault)) (memory cells row : List ℤ) (s s' : Standing) (d : Deed) (o : Result Done Fault)
     → Running t w deeds i outcomes memory cells s → i < length deeds → i < length outcomes → i * (13 * t.members) + 13 * t.members ≤ length cells → length row ≡ 13 * t.members
-    → get_or deeds i no_deed ≡ d → CarriedOut t d s s' (outcome_told o) → row ≡ cells_after t s d (part (i * (13 * t.members)) (13 * t.members) cells)
+    → get_or deeds i no_deed ≡ d → CarriedOut t d s s' (answer o) → row ≡ cells_after t s d (part (i * (13 * t.members)) (13 * t.members) cells)
     → Running t w deeds (i + 1) (set outcomes i o) memory (put_mid (i * (13 * t.members)) (13 * t.members) cells row) s'
 running_more t w deeds i outcomes memory cells row s s' d o r ld lo fits long ed out er =
     let width = 13 * t.members in
     let here = before t w deeds i in
     let next : run_through t w (take (i + 1) deeds) ≡ reached t (run_through t w (take i deeds)) (get_or deeds i no_deed) = ap (run_through t w) (take_more deeds i no_deed ld) ∙ run_more t w (take i deeds) (get_or deeds i no_deed) in
-    let told : outcome_told o ≡ answer_of t here (get_or deeds i no_deed) = out.told ∙ rw (r.stands, ed) refl in
+    let told : answer o ≡ answer_of t here (get_or deeds i no_deed) = out.told ∙ rw (r.stands, ed) refl in
     let stands : s' ≡ standing_after t here (get_or deeds i no_deed) = out.stands ∙ rw (r.stands, ed) refl in
     let written : row ≡ cells_after t here (get_or deeds i no_deed) (part (i * width) width memory) = er ∙ ap (cells_after t s d) (r.rest i (omega arith)) ∙ rw (r.stands, ed) refl in
     let k : Kept t (history_after t s d (run_through t w (take i deeds)).history) s' = out.kept (run_through t w (take i deeds)).history r.kept in
@@ -64,8 +62,8 @@ running_more t w deeds i outcomes memory cells row s s' d o r ld lo fits long ed
       kept = subst (λ (v : World). Kept t v.history s') (sym next) k';
       outcome = λ j l.
           ⊎_elim
-          (λ (e : j ≡ i). rw e (ap outcome_told (get_or-set_same outcomes i o outcome.Booked lo) ∙ told))
-          (λ (ne : j ≡ i → ⊥). ap outcome_told (get_or-set_other outcomes i j o outcome.Booked ne) ∙ r.outcome j (omega arith))
+          (λ (e : j ≡ i). rw e (ap answer (get_or-set_same outcomes i o (Ok ended.Booked) lo) ∙ told))
+          (λ (ne : j ≡ i → ⊥). ap answer (get_or-set_other outcomes i j o (Ok ended.Booked) ne) ∙ r.outcome j (omega arith))
           (cases_eq j i);
       cell = λ j l.
           ⊎_elim
@@ -75,22 +73,11 @@ running_more t w deeds i outcomes memory cells row s s' d o r ld lo fits long ed
       rest = λ j l. row_above width cells row i fits long j (omega arith) ∙ r.rest j (omega arith);
     }
 
-pub running_end : (t : Terms) (w : World) (deeds : List Deed) (i : ℕ) (outcomes : List Outcome) (memory cells : List ℤ) (s : Standing) → length deeds ≤ i
-    → Running t w deeds i outcomes memory cells s → Ran t w deeds outcomes memory cells s
-running_end t w deeds i outcomes memory cells s l r =
-    let all = ap (run_through t w) (take_all i deeds l) in
-    record {
-      stands = r.stands ∙ ap (λ (v : World). v.stands) all;
-      kept = subst (λ (v : World). Kept t v.history s) all r.kept;
-      outcome = λ j h. r.outcome j (omega arith);
-      cell = λ j h. r.cell j (omega arith);
-    }
-
 -- the same, where start and width are told by other numbers
-pub running_step : (t : Terms) (w : World) (deeds : List Deed) (i start k : ℕ) (outcomes : List Outcome) (memory cells row : List ℤ) (s s' : Standing) (d : Deed) (o : Outcome)
+pub running_step : (t : Terms) (w : World) (deeds : List Deed) (i start k : ℕ) (outcomes : List (Result Done Fault)) (memory cells row : List ℤ) (s s' : Standing) (d : Deed) (o : Result Done Fault)
     → start ≡ i * (13 * t.members) → k ≡ 13 * t.members
     → Running t w deeds i outcomes memory cells s → i < length deeds → i < length outcomes → i * (13 * t.members) + 13 * t.members ≤ length cells → length row ≡ 13 * t.members
-    → get_or deeds i no_deed ≡ d → CarriedOut t d s s' (outcome_told o) → row ≡ cells_after t s d (take k (drop start cells))
+    → get_or deeds i no_deed ≡ d → CarriedOut t d s s' (answer o) → row ≡ cells_after t s d (take k (drop start cells))
     → Running t w deeds (i + 1) (set outcomes i o) memory (put_mid start k cells row) s'
 running_step t w deeds i start k outcomes memory cells row s s' d o es ek r ld lo fits long ed out =
     subst (λ (a : ℕ). row ≡ cells_after t s d (take k (drop a cells)) → Running t w deeds (i + 1) (set outcomes i o) memory (put_mid a k cells row) s') (sym es)
@@ -101,9 +88,3 @@ pub row_fits : (i n r m cells : ℕ) → i < n → cells ≡ n * (13 * m) → r 
 row_fits i n r m cells l e f =
     let v : i + 1 ≤ n = omega arith in
     rw (f, e) (omega (arith, mul-le-mul_right (13 * m) v))
-
--- an element that was read, by what it means
-pub read_means : {X Y : Type 0} (f : X → Y) (xs : List X) (i : ℕ) (x : X) (d : Y) → i < length xs → x ≡ get_or xs i x → get_or (map f xs) i d ≡ f x
-read_means f [] i x d l e = absurd (omega arith)
-read_means f (y ∷ xs) zero x d l e = ap f (sym e)
-read_means f (y ∷ xs) (suc i) x d l e = read_means f xs i x d (omega arith) e

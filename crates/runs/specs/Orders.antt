@@ -1,9 +1,8 @@
 -- What an order means, and what it comes to in the world that is reached.
 use Rattle.std.specs.Prelude.{◌≡◌, ℕ, ◌-◌, ◌*◌, List, [], ◌∷◌, ℤ}
-use Rattle.refusal.specs.Answers.{Told, done, refused, next, after, number}
+use Rattle.refusal.specs.Answers.{Told, done, next, after}
 use Rattle.tariff.specs.Heads.{book_rule}
 use Rattle.month_voucher.specs.Costs.{cost_rule}
-use Rattle.charges_text.specs.declared.charges.ComponentCharge.{ComponentCharge}
 use Rattle.ledger.specs.Readings.{Reading, reading}
 use Rattle.ledger.specs.Files.{put}
 use Rattle.ledger.specs.Standings.{Standing, standing}
@@ -11,10 +10,10 @@ use Rattle.ledger.specs.Billing.{Left, bill_rule}
 use Rattle.ledger.specs.Resettling.{resettle_rule}
 use Rattle.ledger.specs.Histories.{Event, History, booked, billed, resettled}
 use Rattle.ledger.specs.Kept.{Terms, Kept}
+use Rattle.runs.specs.declared.done.Done.{Done}
+use Rattle.runs.specs.declared.done.Done.TheVariants as ended
 use Rattle.runs.specs.declared.order.Order.{Order}
 use Rattle.runs.specs.declared.order.Order.TheVariants as order
-use Rattle.runs.specs.declared.outcome.Outcome.{Outcome}
-use Rattle.runs.specs.declared.outcome.Outcome.TheVariants as outcome
 
 -- an order, by what its book means
 pub data Deed : Type 0 where
@@ -55,29 +54,18 @@ history_after t s d h = after (carried t s d) (λ c. c.event ∷ h) h
 abbrev pub cells_after : Terms → Standing → Deed → List ℤ → List ℤ
 cells_after t s d memory = after (carried t s d) (λ c. put 0 c.left.cells memory) memory
 
--- how an order ended
-pub data Ended : Type 0 where
-  was_booked : Ended
-  was_billed : List ComponentCharge → Ended
-  was_resettled : Ended
+-- how an accepted order ended
+abbrev pub ended_of : Deed → Carried → Done
+ended_of (book control amounts) c = ended.Booked
+ended_of (bill b) c = ended.Billed c.left.components
+ended_of (resettle component b) c = ended.Resettled
 
-abbrev pub ended_of : Deed → Carried → Ended
-ended_of (book control amounts) c = was_booked
-ended_of (bill b) c = was_billed c.left.components
-ended_of (resettle component b) c = was_resettled
-
-abbrev pub answer_of : Terms → Standing → Deed → Told Ended
+abbrev pub answer_of : Terms → Standing → Deed → Told Done
 answer_of t s d = next (carried t s d) (λ c. done (ended_of d c))
 
-abbrev pub outcome_told : Outcome → Told Ended
-outcome_told outcome.Booked = done was_booked
-outcome_told (outcome.Billed charges) = done (was_billed charges)
-outcome_told outcome.Resettled = done was_resettled
-outcome_told (outcome.Refused f) = refused (number f.refusal) f.layer f.place
-
 -- an order carried out: it ended with its call's answer, left what that leaves, and kept the accounts
-pub record CarriedOut (t : Terms) (d : Deed) (s s' : Standing) (ended : Told Ended) : Type 0 where
-  pub told : ended ≡ answer_of t s d
+pub record CarriedOut (t : Terms) (d : Deed) (s s' : Standing) (answer : Told Done) : Type 0 where
+  pub told : answer ≡ answer_of t s d
   pub stands : s' ≡ standing_after t s d
   pub kept : (h : History) → Kept t h s → Kept t (history_after t s d h) s'
 

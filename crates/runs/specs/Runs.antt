@@ -1,14 +1,15 @@
 -- A run: a list of orders carried out on a new ledger and its file.
-use Rattle.std.specs.Prelude.{◌≡◌, ℕ, ◌*◌, ◌<◌, cond, ◌&&◌, List, [], length, take, ℤ, pos, ◌==◌, slice_index_or}
-use Rattle.refusal.specs.Answers.{Told, refused, bare}
+use Rattle.std.specs.Prelude.{◌≡◌, ℕ, ◌*◌, ◌<◌, cond, ◌&&◌, List, [], Ok, Result, length, take, ℤ, pos, ◌==◌, slice_index_or}
+use Rattle.refusal.specs.Answers.{Told, refused, answer, bare}
+use Rattle.refusal.specs.declared.Fault.{Fault}
 use Rattle.refusal.specs.declared.Layer.TheVariants as layer
 use Rattle.ledger.specs.declared.line.Line.{Line}
 use Rattle.ledger.specs.Files.{part}
 use Rattle.ledger.specs.Standings.{Standing, standing, no_heads, opened, open_rule}
 use Rattle.ledger.specs.Kept.{Terms, Kept}
-use Rattle.runs.specs.declared.outcome.Outcome.{Outcome}
-use Rattle.runs.specs.declared.outcome.Outcome.TheVariants as outcome
-use Rattle.runs.specs.Orders.{Deed, book, World, run_through, cells_after, answer_of, outcome_told}
+use Rattle.runs.specs.declared.done.Done.{Done}
+use Rattle.runs.specs.declared.done.Done.TheVariants as ended
+use Rattle.runs.specs.Orders.{Deed, book, World, run_through, cells_after, answer_of}
 
 -- 11 where there is not an outcome and a statement of 13 cells a member for each order; then what opening refuses
 abbrev pub run_rule : ℕ → ℕ → ℕ → ℕ → ℕ → Told (Unit {0})
@@ -26,13 +27,13 @@ no_deed = book (pos 0) []
 abbrev pub before : Terms → World → List Deed → ℕ → Standing
 before t w deeds i = (run_through t w (take i deeds)).stands
 
-pub record Ran (t : Terms) (w : World) (deeds : List Deed) (outcomes : List Outcome) (memory cells : List ℤ) (s : Standing) : Type 0 where
+pub record Ran (t : Terms) (w : World) (deeds : List Deed) (outcomes : List (Result Done Fault)) (memory cells : List ℤ) (s : Standing) : Type 0 where
   -- ledger and file are those that the orders lead to
   pub stands : s ≡ (run_through t w deeds).stands
   -- and they keep the accounts of all accepted orders
   pub kept : Kept t (run_through t w deeds).history s
   -- each order has the answer of its call where ledger and file then stood
-  pub outcome : (i : ℕ) → i < length deeds → outcome_told (slice_index_or outcomes i outcome.Booked) ≡ answer_of t (before t w deeds i) (slice_index_or deeds i no_deed)
+  pub outcome : (i : ℕ) → i < length deeds → answer (slice_index_or outcomes i (Ok ended.Booked)) ≡ answer_of t (before t w deeds i) (slice_index_or deeds i no_deed)
   -- and its statement has the cells of that call
   pub cell : (i : ℕ) → i < length deeds
       → part (i * (13 * t.members)) (13 * t.members) cells ≡ cells_after t (before t w deeds i) (slice_index_or deeds i no_deed) (part (i * (13 * t.members)) (13 * t.members) memory)

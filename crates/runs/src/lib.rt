@@ -2,6 +2,6 @@
 #![tactic(auto)]
 
 mod carrying;
+pub mod done;
 pub mod order;
-pub mod outcome;
 pub mod run;

@@ -7,8 +7,8 @@ ghost use Rattle.runs.specs.Orders.{deed_of};
 ghost use Rattle.runs.specs.Runs.{run_rule, new_world, Ran};
 
 use crate::carrying::carry_out;
+use crate::done::Done;
 use crate::order::Order;
-use crate::outcome::Outcome;
 use book::book::Book;
 use ledger::ledger::Ledger;
 use ledger::line::Line;
@@ -20,19 +20,17 @@ use tariff::sheet::Sheet;
 fn cells_fit(cells: usize, orders: usize, members: u32) -> bool
     ensures { result ≡ (cells == orders * (13 * members)) }
 {
-    match orders.checked_mul(13 * members as usize) {
-        Some(wanted) => cells == wanted,
-        None => false,
-    }
+    orders.checked_mul(13 * members as usize) == Some(cells)
 }
 
 /// Carries out the orders one after the other on a ledger that keeps the accounts of no call yet.
+#[tactic(auto, using(crate::proofs::Running::row_fits))]
 fn run_orders<R: Rule, B: Book>(
     ledger: &mut Ledger<R>,
     orders: &[Order<B>],
     file: &mut [Line],
     statements: &mut [i64],
-    outcomes: &mut [Outcome],
+    outcomes: &mut [Result<Done, Fault>],
 )
     requires outcomes { length outcomes.old ≡ length orders.now }
     requires cells { length statements.old ≡ length orders.now * (13 * ledger.old.accounts.members) }
@@ -41,11 +39,12 @@ fn run_orders<R: Rule, B: Book>(
     ensures same { (ledger.new.rule ≡ ledger.old.rule) × (ledger.new.sheet ≡ ledger.old.sheet) }
 {
     let width = 13 * ledger.members() as usize;
-    for i in 0..orders.len() {
+    // zipped chunks would tell nothing of the statements afterwards, so an order's cells go by its place
+    for (i, order) in orders.iter().enumerate() {
         let start = i * width;
         let end = start + width;
         let cells = &mut statements[start..end];
-        outcomes[i] = carry_out(ledger, &orders[i], file, cells);
+        outcomes[i] = carry_out(ledger, order, file, cells);
     }
 }
 
@@ -61,7 +60,7 @@ pub fn run<R: Rule + Drop, B: Book>(
     orders: &[Order<B>],
     file: &mut [Line],
     statements: &mut [i64],
-    outcomes: &mut [Outcome],
+    outcomes: &mut [Result<Done, Fault>],
 ) -> Result<(), Fault>
     ensures told { answer result ≡ run_rule (length orders.now) (length outcomes.old) (length statements.old) members first }
     ensures ran { MatchResult result (λ _. Ran (terms (R.shares rule) R.STEP (cut_by sheet) members first) (new_world members first file.old) (map (deed_of B.month B.count B.held) orders.now) outcomes.new statements.old statements.new (standing_of ledger.new file.new)) (λ _. (ledger.new ≡ ledger.old) × (file.new ≡ file.old) × (statements.new ≡ statements.old) × (outcomes.new ≡ outcomes.old)) }

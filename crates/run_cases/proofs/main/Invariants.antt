@@ -1,5 +1,5 @@
-use Rattle.std.proofs.Common.{◌≤◌}
+use Rattle.std.proofs.Common.{◌<◌}
 use Rattle.run_cases.proofs.main.Given as goal
 
-abbrev pub invariant-loop-place : goal.invariant-loop-place
-invariant-loop-place l = l.agreeing ≤ l.place
+abbrev pub invariant-loop-number : goal.invariant-loop-number
+invariant-loop-number l = l.agreeing < l.number

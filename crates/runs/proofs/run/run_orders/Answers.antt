@@ -1,12 +1,14 @@
-use Rattle.std.proofs.Common.{◌≡◌, ℕ, ◌+◌, ◌-◌, ◌*◌, ◌≤◌, [], map, length, take, drop, refl, ap, ◌∙◌, subst, arith}
-use Rattle.std.proofs.lemmas.List.{length-map}
+use Rattle.std.proofs.Common.{◌≡◌, ℕ, ◌+◌, ◌-◌, ◌*◌, [], map, length, take, drop, refl, sym, ap, ◌∙◌, subst, arith}
+use Rattle.std.proofs.lemmas.List.{length-map, get_or-map}
+use Rattle.refusal.specs.Answers.{answer}
 use Rattle.ledger.specs.Kept.{Terms}
 use Rattle.ledger.specs.Ledgers.{standing_of, terms_of}
-use Rattle.runs.specs.Orders.{deed_of, outcome_told, CarriedOut, cells_after}
+use Rattle.runs.specs.Orders.{deed_of, CarriedOut, cells_after}
 use Rattle.runs.specs.Runs.{no_deed}
-use Rattle.runs.proofs.Running.{running_none, running_step, running_end, row_fits, read_means}
+use Rattle.runs.proofs.Running.{running_step, row_fits}
 use Rattle.runs.proofs.run.run_orders.Goals as goal
 
+<<<<<<< HEAD
 pub overflow_mul-start : goal.overflow_mul-start
 overflow_mul-start g c = omega (arith, row_fits c.loop-i.i (length c.args.orders.now) c.members.result c.args.ledger.now.accounts.members (length c.args.statements.now) (omega arith) c.requires.cells c.members.ensures)
 
@@ -27,6 +29,8 @@ loop-i-init g c =
     let l = c.args.ledger.now in
     (refl, refl, running_none (terms_of g.R.Rule.shares g.R.Rule.STEP l) (standing_of l c.args.file.now) (map (deed_of g.B.Book.month g.B.Book.count g.B.Book.held) c.args.orders.now) c.args.outcomes.now c.args.statements.now c.requires.kept)
 
+=======
+>>>>>>> ef9887be034749a36ae0e126882341e6a2effbf8
 pub loop-i-preserved : goal.loop-i-preserved
 loop-i-preserved g c =
     let l = c.args.ledger.now in
@@ -39,8 +43,13 @@ loop-i-preserved g c =
     let p = c.carry_out.ensures in
     let d = deed c.index-orders-i.result in
     let s = standing_of c.loop-i.ledger c.loop-i.file in
+<<<<<<< HEAD
     let same : terms_of g.R.Rule.shares g.R.Rule.STEP c.loop-i.ledger ≡ t = rw (inv.0, inv.1, inv.2.kept.peopled, inv.2.kept.begun) refl in
     let out = subst (λ (u : Terms). CarriedOut u d s (standing_of c.carry_out.new.ledger c.carry_out.new.file) (outcome_told c.carry_out.result)) same p.carried in
+=======
+    let same : terms_of g.R.Rule.shares g.R.Rule.STEP c.loop-i.ledger ≡ t = rw (inv.0, inv.1, inv.2.kept.peopled, inv.2.kept.begun) refl in
+    let out = subst (λ (u : Terms). CarriedOut u d s (standing_of c.carry_out.new.ledger c.carry_out.new.file) (answer c.carry_out.result)) same p.carried in
+>>>>>>> ef9887be034749a36ae0e126882341e6a2effbf8
     let row = p.cells ∙ ap (λ (u : Terms). cells_after u s d (take (i * (13 * r) + 13 * r - i * (13 * r)) (drop (i * (13 * r)) c.loop-i.statements))) same in
     let n = length-map orders deed in (
       p.same.0 ∙ inv.0,
@@ -48,8 +57,9 @@ loop-i-preserved g c =
       running_step t (record { stands = standing_of l c.args.file.now; history = [] }) (map deed orders) i (i * (13 * r)) (i * (13 * r) + 13 * r - i * (13 * r)) c.loop-i.outcomes c.args.statements.now c.loop-i.statements c.carry_out.new.cells s (standing_of c.carry_out.new.ledger c.carry_out.new.file) d c.carry_out.result
           (ap (λ (m : ℕ). i * (13 * m)) c.members.ensures) (omega (arith, c.members.ensures)) inv.2 (omega (arith, n)) (omega (arith, c.requires.outcomes, c.loop-i.auto.outcomes))
           (omega (arith, row_fits i (length orders) l.accounts.members l.accounts.members (length c.args.statements.now) (omega arith) c.requires.cells refl, c.loop-i.auto.statements))
-          (omega (arith, c.carry_out.auto.cells, c.members.ensures)) (read_means deed orders i c.index-orders-i.result no_deed (omega arith) c.index-orders-i.is) out row,
+          (omega (arith, c.carry_out.auto.cells, c.members.ensures)) (get_or-map deed orders i c.index-orders-i.result no_deed (omega arith) ∙ ap deed (sym c.index-orders-i.is)) out row,
     )
+<<<<<<< HEAD
 
 pub returns : goal.returns
 returns g c =
@@ -60,3 +70,5 @@ returns g c =
       ran = running_end (terms_of g.R.Rule.shares g.R.Rule.STEP l) (record { stands = standing_of l c.args.file.now; history = [] }) (map deed orders) c.loop-i.i c.loop-i.outcomes c.args.statements.now c.loop-i.statements (standing_of c.loop-i.ledger c.loop-i.file) (omega (arith, length-map orders deed)) c.loop-i.invariant.2;
       same = (c.loop-i.invariant.0, c.loop-i.invariant.1);
     }
+=======
+>>>>>>> ef9887be034749a36ae0e126882341e6a2effbf8

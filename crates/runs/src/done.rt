@@ -1,14 +1,11 @@
-//! How an order ended.
+//! How an accepted order ended.
 use charges_text::charges::ComponentCharge;
-use refusal::Fault;
 
-/// What an order came to.
+/// What an order that was not refused came to.
 #[derive(Clone, Copy)]
-pub enum Outcome {
+pub enum Done {
     Booked,
     /// Billed, with each component's pool, units and balance.
     Billed([ComponentCharge; 13]),
     Resettled,
-    /// Refused: nothing changed.
-    Refused(Fault),
 }
