@@ -9,6 +9,7 @@ ghost use Rattle.ledger.specs.Resettling.{settled};
 
 use crate::account::Account;
 use charges_text::charges::ComponentCharge;
+use statement::component::Component;
 
 /// How many members there are, the first month, the open month, and an account for each component.
 #[derive(Clone, Copy)]
@@ -43,12 +44,11 @@ impl Accounts {
         self.first <= month && month < self.month && self.month - month <= 6
     }
 
-    /// Where the row of a month and of the component at a place begins in the file.
-    pub(crate) fn row_start(&self, month: u32, component: usize) -> usize
-        requires { component < 13 }
-        ensures { result ≡ row_at self.now.members month component }
+    /// Where the row of a month and of a component begins in the file.
+    pub(crate) fn row_start(&self, month: u32, component: Component) -> usize
+        ensures { result ≡ row_at self.now.members month component.place }
     {
-        ((month % 6) as usize * 13 + component) * self.members as usize
+        ((month % 6) as usize * 13 + component.place) * self.members as usize
     }
 
     /// The pools of a bill, from the components' costs.
@@ -77,11 +77,10 @@ impl Accounts {
     }
 
     /// Sets one account's balance.
-    pub(crate) fn settle(&mut self, component: usize, balance: i64)
-        requires component { component < 13 }
-        ensures { self.new ≡ settled component balance self.old }
+    pub(crate) fn settle(&mut self, component: Component, balance: i64)
+        ensures { self.new ≡ settled component.place balance self.old }
     {
-        self.rows[component].settle(balance);
+        self.rows[component.place].settle(balance);
     }
 
     /// The thirteen balances.

@@ -16,6 +16,7 @@ use book::book::Book;
 use charges_text::charges::ComponentCharge;
 use refusal::{Fault, Layer, Refusal};
 use sharing::rule::Rule;
+use statement::component::Component;
 use statement::month::charge_month;
 use statement::reading::read_book;
 
@@ -47,7 +48,7 @@ pub(crate) fn charge_book<R: Rule, B: Book>(
     let units = &mut units[..members as usize];
     read_book(book, units)?;
     let charges = charge_month(rule, pools, units, statement)?;
-    let start = accounts.row_start(accounts.month, 0);
+    let start = accounts.row_start(accounts.month, Component { place: 0 });
     let end = start + statement.len();
     write_slot(units, statement, &mut file[start..end]);
     Ok(charges)

@@ -64,10 +64,10 @@ pub(crate) fn find_changes(
     requires lines { length lines.now ≡ length shares.now }
     requires out { length out.old ≡ length shares.now }
     requires shares { (m : ℕ) → unsigned_abs (slice_index_or shares.now m (pos 0)) ≤ 5000000001 }
-    ensures told { answer result ≡ (if list_all cents_within lines.now && within (balance_left row.balance shares.now lines.now) then done (balance_left row.balance shares.now lines.now) else refused 10 layer.Ledger (row.component + 1)) }
+    ensures told { answer result ≡ (if list_all cents_within lines.now && within (balance_left row.balance shares.now lines.now) then done (balance_left row.balance shares.now lines.now) else refused 10 layer.Ledger (row.component.place + 1)) }
     ensures changes { OnOk result (out.new ≡ differences shares.now lines.now) }
 {
-    let fault = Layer::Ledger.refuses_at(Refusal::Resettled, row.component as u32 + 1);
+    let fault = Layer::Ledger.refuses_at(Refusal::Resettled, row.component.number());
     if !cents_within(lines) {
         return Err(fault);
     }

@@ -3,7 +3,7 @@ ghost use Rattle.std.specs.Prelude.{◌≡◌, ℕ, ◌*◌, ◌<◌, List, leng
 ghost use Rattle.ledger.specs.Files.{Tells, lines_of, units_laid};
 
 use crate::line::Line;
-use statement::component::kind_of;
+use statement::component::Component;
 
 /// Writes lines of units and cents, where a function tells the units of each place.
 pub(crate) fn write_lines<F: Fn(usize) -> u32>(units: F, cents: &[i64], lines: &mut [Line])
@@ -27,10 +27,10 @@ pub(crate) fn write_slot(units: &[[u32; 7]], cells: &[i64], slot: &mut [Line])
 {
     let members = units.len();
     // The rows are taken by their places: after `chunks_mut` nothing would be known of the slot.
-    for component in 0..13 {
-        let start = component * members;
+    for place in 0..13 {
+        let start = place * members;
         let end = start + members;
-        let kind = kind_of(component);
+        let kind = Component { place }.kind().place;
         write_lines(
             |i| units[i][kind],
             &cells[start..end],

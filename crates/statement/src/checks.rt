@@ -4,6 +4,8 @@ ghost use Rattle.refusal.specs.Answers.{answer, answer_by};
 ghost use Rattle.statement.specs.Columns.{column};
 ghost use Rattle.statement.specs.Checks.{totals_rule, pools_rule, charge_rule};
 
+use crate::component::Component;
+use crate::kind::Kind;
 use crate::usage::Usage;
 use refusal::{Fault, Layer, Refusal};
 
@@ -45,9 +47,10 @@ impl<'a> TestedMonth<'a> {
 fn check_totals(units: &Usage<'_>) -> Result<(), Fault>
     ensures { answer result ≡ totals_rule units.now.rows.now 0 7 }
 {
-    for kind in 0..7 {
+    for place in 0..7 {
+        let kind = Kind { place };
         if units.total(kind) > MOST_UNITS {
-            return Err(Layer::Ledger.refuses_at(Refusal::Total, kind as u32 + 1));
+            return Err(Layer::Ledger.refuses_at(Refusal::Total, kind.number()));
         }
     }
     Ok(())
@@ -57,9 +60,10 @@ fn check_totals(units: &Usage<'_>) -> Result<(), Fault>
 fn check_pools(pools: [i64; 13]) -> Result<(), Fault>
     ensures { answer result ≡ pools_rule pools 0 }
 {
-    for (i, pool) in pools.iter().enumerate() {
+    for (place, pool) in pools.iter().enumerate() {
         if pool.unsigned_abs() > MOST_CENTS {
-            return Err(Layer::Ledger.refuses_at(Refusal::Pool, i as u32 + 1));
+            let component = Component { place };
+            return Err(Layer::Ledger.refuses_at(Refusal::Pool, component.number()));
         }
     }
     Ok(())

@@ -1,41 +1,57 @@
 //! One component: its pool shared over a kind's units.
-ghost use Rattle.std.specs.Prelude.{◌≡◌, ◌<◌, length};
+ghost use Rattle.std.specs.Prelude.{◌≡◌, ◌+◌, ◌<◌, length};
 ghost use Rattle.statement.specs.Columns.{kind_of};
 ghost use Rattle.statement.specs.Charges.{charge, charged};
 
 use crate::checks::TestedMonth;
+use crate::kind::Kind;
 use cents::totals::sum_of;
 use cents::weights::total;
 use charges_text::charges::ComponentCharge;
 use sharing::rule::Rule;
 
-/// The place of the kind that the component at a place is charged by.
-pub fn kind_of(component: usize) -> usize
-    ensures value { result ≡ kind_of component }
-    ensures below { component < 13 → result < 7 }
-{
-    if component < 7 {
-        component
-    } else {
-        component - 7
+/// A component, by its place among the thirteen.
+#[derive(Clone, Copy)]
+pub struct Component {
+    pub place: usize,
+    ghost below: { place < 13 },
+}
+
+impl Component {
+    /// The number by which it is ordered and refused, 1 to 13.
+    pub fn number(self) -> u32
+        ensures { result ≡ self.place + 1 }
+    {
+        self.place as u32 + 1
+    }
+
+    /// The kind of units that it is charged by.
+    pub fn kind(self) -> Kind
+        ensures { result.place ≡ kind_of self.place }
+    {
+        let place = if self.place < 7 {
+            self.place
+        } else {
+            self.place - 7
+        };
+        Kind { place }
     }
 }
 
 impl TestedMonth<'_> {
-    /// Charges the component at a place: its cells go into a row, one for each member.
+    /// Charges a component: its cells go into a row, one for each member.
     pub(crate) fn charge_component<R: Rule>(
         &self,
         rule: &R,
-        component: usize,
+        component: Component,
         row: &mut [i64],
     ) -> ComponentCharge
-        requires component { component < 13 }
-        requires long { length row.old ≡ length self.now.units.rows.now }
-        ensures value { result ≡ charged (R.shares rule.now) self.now.pools self.now.units.rows.now component }
-        ensures row { row.new ≡ charge (R.shares rule.now) self.now.pools self.now.units.rows.now component }
+        requires { length row.old ≡ length self.now.units.rows.now }
+        ensures value { result ≡ charged (R.shares rule.now) self.now.pools self.now.units.rows.now component.place }
+        ensures row { row.new ≡ charge (R.shares rule.now) self.now.pools self.now.units.rows.now component.place }
     {
-        let kind = kind_of(component);
-        let pool = self.pools[component];
+        let kind = component.kind();
+        let pool = self.pools[component.place];
         let units = self.units.total(kind) as u32;
         let column = self.units.column(kind);
         rule.share(pool, &column[..self.units.rows.len()], row);

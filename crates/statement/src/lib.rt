@@ -3,6 +3,7 @@
 
 mod checks;
 pub mod component;
+pub mod kind;
 pub mod month;
 pub mod reading;
 mod usage;

@@ -5,6 +5,7 @@ ghost use Rattle.statement.specs.Checks.{charge_rule};
 ghost use Rattle.statement.specs.Charges.{components, cells, member_charges};
 
 use crate::checks::TestedMonth;
+use crate::component::Component;
 use charges_text::charges::ComponentCharge;
 use refusal::Fault;
 use sharing::rule::Rule;
@@ -25,13 +26,11 @@ impl TestedMonth<'_> {
         };
         let mut charges = [blank; 13];
         // The rows by their bounds: after `chunks_exact_mut` nothing is known of the statement.
-        for (component, charge) in charges.iter_mut().enumerate() {
-            let start = component * members;
-            *charge = self.charge_component(
-                rule,
-                component,
-                &mut statement[start..start + members],
-            );
+        for (place, charge) in charges.iter_mut().enumerate() {
+            let component = Component { place };
+            let start = place * members;
+            let row = &mut statement[start..start + members];
+            *charge = self.charge_component(rule, component, row);
         }
         charges
     }
@@ -53,12 +52,12 @@ pub fn charge_month<R: Rule>(
 }
 
 /// What a member pays for the component at a place; 0 where the statement has no such cell.
-fn cell(statement: &[i64], component: usize, member: usize) -> i64
-    requires { component < 13 }
-    ensures { result ≡ slice_index_or statement.now (component * (length statement.now / 13) + member) (pos 0) }
+fn cell(statement: &[i64], place: usize, member: usize) -> i64
+    requires { place < 13 }
+    ensures { result ≡ slice_index_or statement.now (place * (length statement.now / 13) + member) (pos 0) }
 {
     let members = statement.len() / 13;
-    let cells = &statement[component * members..];
+    let cells = &statement[place * members..];
     cells.get(member).copied().unwrap_or(0)
 }
 
@@ -66,5 +65,5 @@ fn cell(statement: &[i64], component: usize, member: usize) -> i64
 pub fn member_charges(statement: &[i64], member: usize) -> [i64; 13]
     ensures { result ≡ member_charges statement.now member }
 {
-    array::from_fn(|component| cell(statement, component, member))
+    array::from_fn(|place| cell(statement, place, member))
 }

@@ -1,6 +1,8 @@
 //! The units of a month's members.
-ghost use Rattle.std.specs.Prelude.{◌≡◌, ◌<◌, ◌≤◌, length, sum, take};
+ghost use Rattle.std.specs.Prelude.{◌≡◌, ◌≤◌, length, sum, take};
 ghost use Rattle.statement.specs.Columns.{column};
+
+use crate::kind::Kind;
 
 /// A row of units of the seven kinds for each of at most 200 members.
 #[derive(Clone, Copy)]
@@ -10,22 +12,20 @@ pub(crate) struct Usage<'a> {
 }
 
 impl Usage<'_> {
-    /// The units of the kind at a place, of all members together.
-    pub(crate) fn total(&self, kind: usize) -> u64
-        requires { kind < 7 }
-        ensures { result ≡ sum (column self.now.rows.now kind) }
+    /// The units of a kind, of all members together.
+    pub(crate) fn total(&self, kind: Kind) -> u64
+        ensures { result ≡ sum (column self.now.rows.now kind.place) }
     {
-        self.rows.iter().map(|row| u64::from(row[kind])).sum()
+        self.rows.iter().map(|row| u64::from(row[kind.place])).sum()
     }
 
     /// The same member by member. The memory is fixed, so it has room for the most members.
-    pub(crate) fn column(&self, kind: usize) -> [u32; 200]
-        requires { kind < 7 }
-        ensures { take (length self.now.rows.now) result ≡ column self.now.rows.now kind }
+    pub(crate) fn column(&self, kind: Kind) -> [u32; 200]
+        ensures { take (length self.now.rows.now) result ≡ column self.now.rows.now kind.place }
     {
         let mut column = [0u32; 200];
         for (member, row) in self.rows.iter().enumerate() {
-            column[member] = row[kind];
+            column[member] = row[kind.place];
         }
         column
     }

@@ -1,5 +1,6 @@
 //! Resettling a month on file.
-ghost use Rattle.std.specs.Prelude.{◌≡◌, ◌-◌, ◌||◌, ◌∷◌, MatchResult};
+ghost use Rattle.std.specs.Prelude.{◌≡◌, ◌-◌, ◌||◌, ◌∷◌, if◌then◌else◌, Some, None, MatchResult};
+ghost use Rattle.std.specs.Option.{option_map};
 ghost use Rattle.refusal.specs.Answers.{answer, bare, after};
 ghost use Rattle.ledger.specs.Readings.{reading_of};
 ghost use Rattle.ledger.specs.Resettling.{reconciled};
@@ -14,12 +15,18 @@ use crate::resettling::resettle_lines;
 use book::book::Book;
 use refusal::{Fault, Layer, Refusal};
 use sharing::rule::Rule;
+use statement::component::Component;
 
-/// Whether a component's units are reconciled.
-fn is_reconciled(component: u32) -> bool
-    ensures { result ≡ reconciled component }
+/// The component of a number, where its units are reconciled.
+fn reconciled(number: u32) -> Option<Component>
+    ensures { option_map (λ c. c.place) result ≡ (if reconciled number then Some (number - 1) else None) }
 {
-    component == 8 || component == 11
+    match number {
+        8 | 11 => Some(Component {
+            place: number as usize - 1,
+        }),
+        _ => None,
+    }
 }
 
 impl<R: Rule> Ledger<R> {
@@ -38,9 +45,9 @@ impl<R: Rule> Ledger<R> {
         ensures same { (self.new.rule ≡ self.old.rule) × (self.new.sheet ≡ self.old.sheet) }
         ensures law { (h : History) → Kept (terms_of R.shares R.STEP self.old) h (standing_of self.old file.old) → MatchResult result (λ _. Kept (terms_of R.shares R.STEP self.old) (resettled (component - 1) (reading_of B.Book book.now) statement.new ∷ h) (standing_of self.new file.new)) (λ _. Kept (terms_of R.shares R.STEP self.old) h (standing_of self.new file.new)) }
     {
-        if !is_reconciled(component) {
+        let Some(component) = reconciled(component) else {
             return Err(Layer::Ledger.refuses(Refusal::Kind));
-        }
+        };
         let members = self.accounts.members;
         check_memory(
             members,
@@ -52,9 +59,8 @@ impl<R: Rule> Ledger<R> {
         if !self.accounts.is_on_file(book.month()) {
             return Err(Layer::Ledger.refuses(Refusal::Month));
         }
-        let place = component as usize - 1;
-        let left = resettle_lines(&self.rule, &self.accounts, place, book, file, statement)?;
-        self.accounts.settle(place, left);
+        let left = resettle_lines(&self.rule, &self.accounts, component, book, file, statement)?;
+        self.accounts.settle(component, left);
         Ok(())
     }
 }

@@ -1,4 +1,4 @@
-use Rattle.std.proofs.Common.{◌+◌, sym, ◌∙◌, arith}
+use Rattle.std.proofs.Common.{◌+◌, ap, sym, ◌∙◌, arith}
 use Rattle.statement.specs.Columns.{column}
 use Rattle.statement.specs.Readings.{book_rows}
 use Rattle.ledger.proofs.Overwritten.{front_more, front_end}
@@ -12,15 +12,16 @@ loop-member-preserved g c =
     let held = g.B.Book.held c.args.book.now in
     let count = g.B.Book.count c.args.book.now in
     let i = c.loop-member.member in
-    let k = c.args.kind in
+    let k = c.args.kind.place in
+    let n = c.number.result in
     let rows = book_rows held 0 count in
-    let u = ask_is count (held (k + 1) i) (k + 1) i c.in_ok-units.field-0 (omega arith) (omega (arith, c.requires.kind)) (omega (arith, c.requires.long)) c.in_ok-units.ensures in
-    front_more 0 (column rows k) c.loop-member.out i _ (omega (arith, column_length rows k, rows_length held 0 count, c.requires.long)) (omega arith)
-    (u ∙ sym (kind_at held count k i c.requires.kind (omega (arith, c.requires.long)))) c.loop-member.invariant
+    let u = ask_is count (held n i) n i c.in_ok-units.field-0 (omega (arith, c.number.ensures)) (omega (arith, c.number.ensures, c.args.kind.below)) (omega (arith, c.requires)) c.in_ok-units.ensures in
+    front_more 0 (column rows k) c.loop-member.out i _ (omega (arith, column_length rows k, rows_length held 0 count, c.requires)) (omega arith)
+    (u ∙ ap (λ j. held j i) c.number.ensures ∙ sym (kind_at held count k i c.args.kind.below (omega (arith, c.requires)))) c.loop-member.invariant
 
 pub returns-clause-units : goal.returns-clause-units
 returns-clause-units g c =
     let held = g.B.Book.held c.args.book.now in
     let count = g.B.Book.count c.args.book.now in
     let rows = book_rows held 0 count in
-    front_end 0 (column rows c.args.kind) c.loop-member.out c.loop-member.member (omega (arith, column_length rows c.args.kind, rows_length held 0 count, c.requires.long)) (omega arith) c.loop-member.invariant
+    front_end 0 (column rows c.args.kind.place) c.loop-member.out c.loop-member.member (omega (arith, column_length rows c.args.kind.place, rows_length held 0 count, c.requires)) (omega arith) c.loop-member.invariant

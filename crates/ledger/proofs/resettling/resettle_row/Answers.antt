@@ -11,7 +11,7 @@ pub find_changes-requires-clause-shares : goal.find_changes-requires-clause-shar
 find_changes-requires-clause-shares g c =
     let x = c.args.rule.now in
     let q = c.in_ok-share_again.ensures.shared.1 in
-    let us = column (rows_read (reading_of g.B.Book c.args.book.now)) c.kind_of.result in
+    let us = column (rows_read (reading_of g.B.Book c.args.book.now)) c.kind.result.place in
     λ m. subst (λ (ss : List ℤ). nat_abs (get_or ss m (pos 0)) ≤ 5000000001) (sym q) (share_small g.R.Rule.STEP _ us _ g.met.R.Rule.stepped (g.met.R.Rule.idle x _ us) (g.met.R.Rule.fair x _ us) m)
 
 pub returns-in_err-left-clause-told : goal.returns-in_err-left-clause-told
@@ -20,8 +20,8 @@ returns-in_err-left-clause-told g c =
     let row = c.args.row in
     let rows = rows_read (reading_of g.B.Book c.args.book.now) in
     let sh = g.R.Rule.shares c.args.rule.now in
-    let e = c.kind_of.ensures.value in
+    let e = c.kind.ensures in
     let z = to_z-of_z w64 row.pool (search rules) in
-    let q : c.share_again.new.fresh ≡ sh row.pool (column rows (kind_of row.component)) = c.in_ok-share_again.ensures.shared.1 ∙ rw (z, e) refl in
+    let q : c.share_again.new.fresh ≡ sh row.pool (column rows (kind_of row.component.place)) = c.in_ok-share_again.ensures.shared.1 ∙ rw (z, e) refl in
     let t = c.in_err-left.ensures.told in
-    rw (p.1, p.2) (change_told row.component c.kind_of.result rows (sh row.pool (column rows (kind_of row.component))) row.balance c.args.lines.now _ e c.in_ok-share_again.ensures.told (rw q at t))
+    rw (p.1, p.2) (change_told row.component.place c.kind.result.place rows (sh row.pool (column rows (kind_of row.component.place))) row.balance c.args.lines.now _ e c.in_ok-share_again.ensures.told (rw q at t))

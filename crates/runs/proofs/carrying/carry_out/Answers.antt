@@ -11,24 +11,8 @@ use Rattle.runs.proofs.Booked.{none_written}
 use Rattle.runs.proofs.Called.{called, mapped, bare_is, front_written}
 use Rattle.runs.proofs.carrying.carry_out.Goals as goal
 
-<<<<<<< HEAD
-pub returns-in-Book : goal.returns-in-Book
-returns-in-Book g c =
-    let l = c.args.ledger.now in
-    let costs = c.in-Book.costs in
-    let p = c.book_costs.ensures in
-    rw c.in-Book.is (record {
-      carried = p.carried c.args.file.now;
-      cells = none_written (terms_of g.R.Rule.shares g.R.Rule.STEP l) (standing_of l c.args.file.now) costs.control costs.amounts c.args.cells.now;
-      same = p.same;
-    })
-
-pub returns-in-Bill : goal.returns-in-Bill
-returns-in-Bill g c =
-=======
 pub returns-in-Bill-clause-carried : goal.returns-in-Bill-clause-carried
 returns-in-Bill-clause-carried g c =
->>>>>>> ef9887be034749a36ae0e126882341e6a2effbf8
     let l = c.args.ledger.now in
     let t = terms_of g.R.Rule.shares g.R.Rule.STEP l in
     let book = c.in-Bill.book in

@@ -8,29 +8,6 @@ use Rattle.runs.specs.Runs.{no_deed}
 use Rattle.runs.proofs.Running.{running_step, row_fits}
 use Rattle.runs.proofs.run.run_orders.Goals as goal
 
-<<<<<<< HEAD
-pub overflow_mul-start : goal.overflow_mul-start
-overflow_mul-start g c = omega (arith, row_fits c.loop-i.i (length c.args.orders.now) c.members.result c.args.ledger.now.accounts.members (length c.args.statements.now) (omega arith) c.requires.cells c.members.ensures)
-
-pub overflow_add-end : goal.overflow_add-end
-overflow_add-end g c = omega (arith, row_fits c.loop-i.i (length c.args.orders.now) c.members.result c.args.ledger.now.accounts.members (length c.args.statements.now) (omega arith) c.requires.cells c.members.ensures)
-
-pub offset_bounds-statements-start : goal.offset_bounds-statements-start
-offset_bounds-statements-start g c = omega (arith, row_fits c.loop-i.i (length c.args.orders.now) c.members.result c.args.ledger.now.accounts.members (length c.args.statements.now) (omega arith) c.requires.cells c.members.ensures)
-
-pub slice_bounds-cells-end : goal.slice_bounds-cells-end
-slice_bounds-cells-end g c =
-    let w = 13 * c.members.result in
-    let p : c.loop-i.i * w + w ≤ length c.loop-i.statements = omega (arith, row_fits c.loop-i.i (length c.args.orders.now) c.members.result c.args.ledger.now.accounts.members (length c.args.statements.now) (omega arith) c.requires.cells c.members.ensures, c.loop-i.auto.statements) in
-    p
-
-pub loop-i-init : goal.loop-i-init
-loop-i-init g c =
-    let l = c.args.ledger.now in
-    (refl, refl, running_none (terms_of g.R.Rule.shares g.R.Rule.STEP l) (standing_of l c.args.file.now) (map (deed_of g.B.Book.month g.B.Book.count g.B.Book.held) c.args.orders.now) c.args.outcomes.now c.args.statements.now c.requires.kept)
-
-=======
->>>>>>> ef9887be034749a36ae0e126882341e6a2effbf8
 pub loop-i-preserved : goal.loop-i-preserved
 loop-i-preserved g c =
     let l = c.args.ledger.now in
@@ -43,13 +20,8 @@ loop-i-preserved g c =
     let p = c.carry_out.ensures in
     let d = deed c.index-orders-i.result in
     let s = standing_of c.loop-i.ledger c.loop-i.file in
-<<<<<<< HEAD
-    let same : terms_of g.R.Rule.shares g.R.Rule.STEP c.loop-i.ledger ≡ t = rw (inv.0, inv.1, inv.2.kept.peopled, inv.2.kept.begun) refl in
-    let out = subst (λ (u : Terms). CarriedOut u d s (standing_of c.carry_out.new.ledger c.carry_out.new.file) (outcome_told c.carry_out.result)) same p.carried in
-=======
     let same : terms_of g.R.Rule.shares g.R.Rule.STEP c.loop-i.ledger ≡ t = rw (inv.0, inv.1, inv.2.kept.peopled, inv.2.kept.begun) refl in
     let out = subst (λ (u : Terms). CarriedOut u d s (standing_of c.carry_out.new.ledger c.carry_out.new.file) (answer c.carry_out.result)) same p.carried in
->>>>>>> ef9887be034749a36ae0e126882341e6a2effbf8
     let row = p.cells ∙ ap (λ (u : Terms). cells_after u s d (take (i * (13 * r) + 13 * r - i * (13 * r)) (drop (i * (13 * r)) c.loop-i.statements))) same in
     let n = length-map orders deed in (
       p.same.0 ∙ inv.0,
@@ -59,16 +31,3 @@ loop-i-preserved g c =
           (omega (arith, row_fits i (length orders) l.accounts.members l.accounts.members (length c.args.statements.now) (omega arith) c.requires.cells refl, c.loop-i.auto.statements))
           (omega (arith, c.carry_out.auto.cells, c.members.ensures)) (get_or-map deed orders i c.index-orders-i.result no_deed (omega arith) ∙ ap deed (sym c.index-orders-i.is)) out row,
     )
-<<<<<<< HEAD
-
-pub returns : goal.returns
-returns g c =
-    let l = c.args.ledger.now in
-    let deed = deed_of g.B.Book.month g.B.Book.count g.B.Book.held in
-    let orders = c.args.orders.now in
-    record {
-      ran = running_end (terms_of g.R.Rule.shares g.R.Rule.STEP l) (record { stands = standing_of l c.args.file.now; history = [] }) (map deed orders) c.loop-i.i c.loop-i.outcomes c.args.statements.now c.loop-i.statements (standing_of c.loop-i.ledger c.loop-i.file) (omega (arith, length-map orders deed)) c.loop-i.invariant.2;
-      same = (c.loop-i.invariant.0, c.loop-i.invariant.1);
-    }
-=======
->>>>>>> ef9887be034749a36ae0e126882341e6a2effbf8

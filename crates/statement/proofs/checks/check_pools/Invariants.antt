@@ -3,5 +3,5 @@ use Rattle.statement.specs.Checks.{pools_rule}
 use Rattle.statement.proofs.checks.check_pools.Given as goal
 
 -- the components that are left decide
-abbrev pub invariant-loop-i : goal.invariant-loop-i
-invariant-loop-i l = pools_rule (drop l.i l.pool-items) l.i ≡ pools_rule l.pool-items 0
+abbrev pub invariant-loop-place : goal.invariant-loop-place
+invariant-loop-place l = pools_rule (drop l.place l.pool-items) l.place ≡ pools_rule l.pool-items 0

@@ -5,8 +5,8 @@ use Rattle.statement.proofs.checks.check_totals.Goals as goal
 
 pub returns-then-total-gt-MOST_UNITS : goal.returns-then-total-gt-MOST_UNITS
 returns-then-total-gt-MOST_UNITS c =
-    rw c.refuses_at.ensures (totals_stop c.args.units.now.rows.now c.loop-kind.kind (totals_rule c.args.units.now.rows.now 0 7) (omega arith) c.loop-kind.invariant (omega (arith, c.total.ensures)))
+    rw (c.refuses_at.ensures, c.number.ensures) (totals_stop c.args.units.now.rows.now c.loop-place.place (totals_rule c.args.units.now.rows.now 0 7) (omega arith) c.loop-place.invariant (omega (arith, c.total.ensures)))
 
-pub loop-kind-preserved : goal.loop-kind-preserved
-loop-kind-preserved c =
-    totals_more c.args.units.now.rows.now c.loop-kind.kind (totals_rule c.args.units.now.rows.now 0 7) (omega arith) c.loop-kind.invariant (omega (arith, c.total.ensures))
+pub loop-place-preserved : goal.loop-place-preserved
+loop-place-preserved c =
+    totals_more c.args.units.now.rows.now c.loop-place.place (totals_rule c.args.units.now.rows.now 0 7) (omega arith) c.loop-place.invariant (omega (arith, c.total.ensures))

@@ -1,6 +1,7 @@
 use Rattle.std.proofs.Common.{◌≡◌, ℕ, ◌+◌, ◌-◌, ◌≤◌, true, List, length, ℤ, nat_abs, Ok, sym, ap, ◌∙◌, subst, w64, rules}
 use Rattle.std.proofs.lemmas.Int.{to_z-of_z}
 use Rattle.refusal.specs.Answers.{Told, done, bare, after}
+use Rattle.cents.proofs.Options.{cond_some}
 use Rattle.ledger.specs.declared.account.Account.{Account}
 use Rattle.ledger.specs.declared.accounts.Accounts.{Accounts}
 use Rattle.ledger.specs.declared.line.Line.{Line}
@@ -18,21 +19,19 @@ pub invariant_of-self-2 : goal.invariant_of-self-2
 invariant_of-self-2 g c =
     let self = c.args.self.now in
     let a = self.accounts in
-    let r : reconciled c.args.component ≡ true = sym c.if-not-is_reconciled.ensures in
-    let p = reconciled_place c.args.component r in
     let left = c.in_ok-left.left in
     let z = to_z-of_z w64 left (search rules) in
     let book = c.args.book.now in
     let b = reading_of g.B.Book book in
-    let i = c.args.component - 1 in
+    let i = c.in-Some.component.place in
     let small = (change_passed (i + 1) (units_read b i) (shares_again (g.R.Rule.shares self.rule) a b i) (account_at a i).balance (lines_at a c.args.file.now b i) left c.in_ok-left.ensures.told).3 in
-    let e = c.settle.ensures ∙ ap (λ (x : ℤ). settled (c.args.component - 1) x a) z in
+    let e = c.settle.ensures ∙ ap (λ (x : ℤ). settled i x a) z in
     rw e (
     record {
       peopled = (self.peopled.0, self.peopled.1);
       dated = (self.dated.0, self.dated.1, self.dated.2);
-      slots = λ d l. settled_all (c.args.component - 1) left a p.0 (search rules) (λ (x : Account). length x.pools ≡ 6) (self.slots (c.args.component - 1) p.0) d (self.slots d l);
-      small = λ d. settled_all (c.args.component - 1) left a p.0 (search rules) (λ (x : Account). nat_abs x.balance ≤ 4000000000) small d (self.small d);
+      slots = λ d l. settled_all i left a c.in-Some.component.below (search rules) (λ (x : Account). length x.pools ≡ 6) (self.slots i c.in-Some.component.below) d (self.slots d l);
+      small = λ d. settled_all i left a c.in-Some.component.below (search rules) (λ (x : Account). nat_abs x.balance ≤ 4000000000) small d (self.small d);
     }
     )
 
@@ -48,7 +47,8 @@ returns-clause-law g c =
     let s = standing_of self file in
     let component = c.args.component in
     let i = component - 1 in
-    let r : reconciled component ≡ true = sym c.if-not-is_reconciled.ensures in
+    let k = cond_some (reconciled component) i c.in-Some.component.place c.in-Some.ensures in
+    let r = k.0 in
     let p = reconciled_place component r in
     let m : done tt ≡ memory_rule a.members (length file) (length memory) a.members b.count = c.in_ok-check_memory.ensures ∙ ap (memory_rule a.members (length file) (length memory) a.members) c.members.ensures in
     let o : is_on_file a b.month ≡ true = sym (c.if-not-is_on_file.ensures ∙ ap (is_on_file a) c.month.ensures) in
@@ -56,10 +56,10 @@ returns-clause-law g c =
     let change : ℕ → Told ℤ = λ n. change_rule n (units_read b i) (shares_again sh a b i) (account_at a i).balance (lines_at a file b i) in
     let left = c.in_ok-left.left in
     let z = to_z-of_z w64 left (search rules) in
-    let h = subst (λ (n : ℕ). done left ≡ change n) p.1 c.in_ok-left.ensures.told in
+    let h = subst (λ (n : ℕ). done left ≡ change n) p.1 (rw k.1 at c.in_ok-left.ensures.told) in
     let d = resettle_is sh s b component (length memory) (done left) r m o h in
-    let e = c.settle.ensures ∙ ap (λ (x : ℤ). settled i x a) z in
-    let q = c.in_ok-left.ensures.done in
+    let e = rw k.1 at (c.settle.ensures ∙ ap (λ (x : ℤ). settled c.in-Some.component.place x a) z) in
+    let q = rw k.1 at c.in_ok-left.ensures.done in
     let new = standing self.heads.amounts c.settle.new.self c.resettle_lines.new.file in
     let told = ap bare d in
     let stands = ap (λ (x : Accounts). standing self.heads.amounts x c.resettle_lines.new.file) e ∙ ap (λ (f : List Line). standing self.heads.amounts (settled i left a) f) q.0 ∙ ap (λ (t : Told Left). after t (λ left. left.standing) s) d in

@@ -3,20 +3,20 @@ use Rattle.std.proofs.lemmas.List.{length-set}
 use Rattle.statement.proofs.Statements.{cells_none, cells_more, components_none, components_more}
 use Rattle.statement.proofs.checks.TestedMonth.charge.Goals as goal
 
-pub loop-component-init : goal.loop-component-init
-loop-component-init g c =
+pub loop-place-init : goal.loop-place-init
+loop-place-init g c =
     let sh = g.R.Rule.shares c.args.rule.now in
     let long = g.met.R.Rule.long c.args.rule.now in
     let m = c.args.self.now in
     (refl, components_none sh long m.pools m.units.rows.now, cells_none sh long m.pools m.units.rows.now c.args.statement.now)
 
-pub loop-component-preserved : goal.loop-component-preserved
-loop-component-preserved g c =
+pub loop-place-preserved : goal.loop-place-preserved
+loop-place-preserved g c =
     let sh = g.R.Rule.shares c.args.rule.now in
     let long = g.met.R.Rule.long c.args.rule.now in
     let m = c.args.self.now in
-    let k = c.loop-component.component in (
-      simp length-set c.loop-component.invariant.0,
-      components_more sh long m.pools m.units.rows.now k c.loop-component.charge-items c.charge_component.result (omega arith) c.loop-component.invariant.1 c.charge_component.ensures.value,
-      cells_more sh long m.pools m.units.rows.now k _ c.args.statement.now c.loop-component.statement c.charge_component.new.row (omega arith) c.loop-component.invariant.2 c.charge_component.ensures.row,
+    let k = c.loop-place.place in (
+      simp length-set c.loop-place.invariant.0,
+      components_more sh long m.pools m.units.rows.now k c.loop-place.charge-items c.charge_component.result (omega arith) c.loop-place.invariant.1 c.charge_component.ensures.value,
+      cells_more sh long m.pools m.units.rows.now k _ c.args.statement.now c.loop-place.statement c.charge_component.new.row (omega arith) c.loop-place.invariant.2 c.charge_component.ensures.row,
     )

@@ -4,4 +4,4 @@ use Rattle.statement.proofs.usage.Usage.column.Given as goal
 
 -- the units so far
 abbrev pub invariant-loop-member : goal.invariant-loop-member
-invariant-loop-member l = (length l.column ≡ 200) × (take l.member l.column ≡ column (take l.member l.row-items) l.kind)
+invariant-loop-member l = (length l.column ≡ 200) × (take l.member l.column ≡ column (take l.member l.row-items) l.kind.place)
