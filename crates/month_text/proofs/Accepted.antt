@@ -4,12 +4,13 @@ use lib.ListN.{length-replicate}
 use Rattle.std.proofs.lemmas.List.{take_at}
 use Rattle.std.proofs.lemmas.Bool.{leb-true, ltb-true, and_parts}
 use Rattle.std.proofs.lemmas.Bool.Decides.{nat_tests}
+use Rattle.std.specs.List.{list_all}
 use Rattle.refusal.specs.declared.Layer.{Layer}
 use Rattle.refusal.specs.Answers.{Told, next}
 use Rattle.units.specs.Kinds.{lawful}
 use Rattle.month_text.specs.declared.month.Member.{Member}
 use Rattle.month_text.specs.Numbers.{bind}
-use Rattle.month_text.specs.Ranges.{each, natural_in, amount_in, all, row_at, out_of_range}
+use Rattle.month_text.specs.Ranges.{each, natural_in, amount_in, row_at, out_of_range}
 use Rattle.month_text.specs.Members.{member_of, blank, member_lawful, member_at, members_at, places_at}
 use Rattle.month_text.specs.Accepted.{EachTo, EachWithin, Rising, EachLawful, Placed}
 
@@ -43,10 +44,10 @@ each_range low high (z ∷ zs) ns e =
     let n : a.0 ∷ b.0 ≡ ns = cc b.2 in
     subst (EachTo high) n (cons_each high a.0 b.0 (natural_range low high z a.0 a.1) (each_range low high zs b.0 b.1))
 
-pub all_within : (most : ℕ) (zs : List ℤ) → all (amount_in most) zs ≡ true → EachWithin most zs
+pub all_within : (most : ℕ) (zs : List ℤ) → list_all (amount_in most) zs ≡ true → EachWithin most zs
 all_within most [] e k = omega arith
-all_within most (z ∷ zs) e zero = leb-true (nat_abs z) most (and_parts (amount_in most z) (all (amount_in most) zs) e).0
-all_within most (z ∷ zs) e (suc k) = all_within most zs (and_parts (amount_in most z) (all (amount_in most) zs) e).1 k
+all_within most (z ∷ zs) e zero = leb-true (nat_abs z) most (and_parts (amount_in most z) (list_all (amount_in most) zs) e).0
+all_within most (z ∷ zs) e (suc k) = all_within most zs (and_parts (amount_in most z) (list_all (amount_in most) zs) e).1 k
 
 member_lawful_lem : (line last : ℕ) (s : List ℕ) (v : Member × List ℕ) → member_at line last s ≡ Told.done v → member_lawful last v.0 ≡ true
 member_lawful_lem line last s v e =

@@ -3,12 +3,13 @@ use Rattle.std.proofs.Common.{◌≡◌, ℕ, zero, suc, ◌+◌, ◌-◌, Bool,
 use lib.ListN.{length-map}
 use Rattle.std.proofs.lemmas.List.{take_at}
 use Rattle.cents.proofs.Tabulated.{tabulated}
+use Rattle.std.specs.List.{list_all}
 use Rattle.refusal.specs.declared.Layer.{Layer}
 use Rattle.refusal.specs.Answers.{Told, next}
 use Rattle.month_text.specs.declared.month.Member.{Member}
 use Rattle.month_text.specs.Numbers.{bind}
 use Rattle.month_text.specs.Lines.{line_at}
-use Rattle.month_text.specs.Ranges.{out_of_range, off_balance, or_else, each, natural_in, amount_in, all, number_at_line, row_at, amounts_at, weights_at}
+use Rattle.month_text.specs.Ranges.{out_of_range, off_balance, or_else, each, natural_in, amount_in, number_at_line, row_at, amounts_at, weights_at}
 use Rattle.month_text.specs.Members.{member_of, blank, member_lawful, member_at, members_at, places_at}
 use Rattle.month_text.specs.OneSpelling.{spelled_line, row_of, spelled_member, spelled_members, breaks}
 use Rattle.month_text.proofs.Accepted.{bind_some, next_done, test_done, members_kept}
@@ -73,8 +74,8 @@ weights_takes key left line s v h e =
 
 pub amounts_takes : (key : List ℕ) (left most line : ℕ) (s : List ℕ) (v : List ℤ × List ℕ) → breaks key ≡ 0 → amounts_at key (suc left) most line s ≡ Told.done v → LineTaken key s (suc left) v
 amounts_takes key left most line s v h e =
-    let a = or_done (line_at key true (suc left) s) 1 Layer.Text line (λ p. cond (all (amount_in most) p.0) (Told.done p) (out_of_range line)) v e in
-    let b = test_done (all (amount_in most) a.0.0) a.0 v 2 Layer.Text line a.2 in
+    let a = or_done (line_at key true (suc left) s) 1 Layer.Text line (λ p. cond (list_all (amount_in most) p.0) (Told.done p) (out_of_range line)) v e in
+    let b = test_done (list_all (amount_in most) a.0.0) a.0 v 2 Layer.Text line a.2 in
     subst (LineTaken key s (suc left)) b.1 (line_takes key true left s a.0 h a.1)
 
 -- a row of twelve numbers is told whole by its member

@@ -1,8 +1,9 @@
 //! Lines whose numbers lie in their ranges.
 ghost use Rattle.std.specs.Prelude.{◌≡◌, ◌^◌, ◌<◌, ◌≤◌, IfSome, IfOk, sum};
+ghost use Rattle.std.specs.List.{list_all};
 ghost use Rattle.refusal.specs.Answers.{answer_by};
 ghost use Rattle.month_text.specs.Accepted.{EachTo, EachWithin};
-ghost use Rattle.month_text.specs.Ranges.{natural_in, amount_in, each, all, number_at_line, row_at, amounts_at, weights_at};
+ghost use Rattle.month_text.specs.Ranges.{natural_in, amount_in, each, number_at_line, row_at, amounts_at, weights_at};
 
 use crate::lines::line;
 use cents::weights::adds_up;
@@ -13,10 +14,8 @@ fn natural(x: i64, low: u32, high: u32) -> Option<u32>
     ensures value { result ≡ natural_in low high x }
     ensures range { IfSome result (λ n. (low ≤ n) × (n ≤ high)) }
 {
-    if x < i64::from(low) || x > i64::from(high) {
-        return None;
-    }
-    Some(x as u32)
+    let n = u32::try_from(x).ok()?;
+    (low..=high).contains(&n).then_some(n)
 }
 
 /// All numbers without signs, where each lies from `low` to `high`.
@@ -25,30 +24,17 @@ fn naturals<const K: usize>(xs: [i64; K], low: u32, high: u32) -> Option<[u32; K
     ensures range { IfSome result (λ ns. EachTo high ns) }
 {
     let mut numbers = [0u32; K];
-    for i in 0..K {
-        let number = natural(xs[i], low, high)?;
-        numbers[i] = number;
+    for (i, x) in xs.iter().enumerate() {
+        numbers[i] = natural(*x, low, high)?;
     }
     Some(numbers)
 }
 
-/// Whether an amount lies within ±`most`.
-fn bounded(x: i64, most: u64) -> bool
-    ensures { result ≡ amount_in most x }
-{
-    x.unsigned_abs() <= most
-}
-
 /// Whether each amount lies within ±`most`.
 fn all_bounded<const K: usize>(xs: [i64; K], most: u64) -> bool
-    ensures { result ≡ all (amount_in most) xs.entry }
+    ensures { result ≡ list_all (amount_in most) xs.entry }
 {
-    for x in &xs {
-        if !bounded(*x, most) {
-            return false;
-        }
-    }
-    true
+    xs.iter().all(|x| x.unsigned_abs() <= most)
 }
 
 /// A line of one number from `low` to `high`, and the text after it.
