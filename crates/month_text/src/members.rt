@@ -5,8 +5,9 @@ ghost use Rattle.month_text.specs.Accepted.{Placed};
 ghost use Rattle.month_text.specs.Members.{member_of, blank, member_lawful, member_at, places_at};
 
 use crate::month::Member;
-use crate::ranges::row;
-use refusal::{Fault, Layer, Refusal};
+use crate::ranges::{out_of_range, row};
+use refusal::Fault;
+use std::array;
 use units::facts::Facts;
 
 /// The line of the first member.
@@ -16,12 +17,9 @@ pub(crate) const FIRST: u32 = 9;
 fn member_of(row: [u32; 12]) -> Member
     ensures { result ≡ member_of row }
 {
-    let facts = [
-        row[1], row[2], row[3], row[4], row[5], row[6], row[7], row[8], row[9], row[10], row[11],
-    ];
     Member {
         account: row[0],
-        facts: Facts::of(facts),
+        facts: Facts::of(array::from_fn(|i| row[i + 1])),
     }
 }
 
@@ -46,13 +44,12 @@ fn follows(last: u32, member: Member) -> bool
 fn member_line(place: u32, last: u32, s: &[u8]) -> Result<(Member, &[u8]), Fault>
     ensures { answer_by (λ p. (p.0, p.1.now)) result ≡ member_at place last s.now }
 {
-    let got = row::<12>(b"user", 0, 100_000_000, place, s)?;
-    let numbers = got.0;
+    let (numbers, rest) = row(b"user", 0, 100_000_000, place, s)?;
     let member = member_of(numbers);
     if !follows(last, member) {
-        return Err(Layer::Text.refuses_at(Refusal::Range, place));
+        return Err(out_of_range(place));
     }
-    Ok((member, got.1))
+    Ok((member, rest))
 }
 
 /// The lines of `count` members, in the first of 32 places, and the text after them.
