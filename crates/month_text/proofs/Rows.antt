@@ -1,6 +1,6 @@
 -- One member's line more.
-use Rattle.std.proofs.Common.{◌≡◌, ℕ, suc, ◌+◌, ◌-◌, List, [], ◌∷◌, ◌++◌, take, drop, replicate, refl, ◌∙◌, append_assoc, append-nil}
-use Rattle.std.proofs.lemmas.List.{take-append-drop}
+use Rattle.std.proofs.Common.{◌≡◌, ℕ, suc, ◌+◌, List, [], ◌∷◌, ◌++◌, drop, replicate, refl, append_assoc, append-nil}
+use Rattle.std.proofs.lemmas.List.{drop-replicate}
 use Rattle.refusal.specs.declared.Layer.{Layer}
 use Rattle.refusal.specs.Answers.{Told, next}
 use Rattle.month_text.specs.declared.month.Member.{Member}
@@ -28,11 +28,11 @@ rows_more k left line next-line last s m t xs e n h = rw (e, n, h) (ahead_more x
 pub rows_stop : (k left line last : ℕ) (s : List ℕ) (xs : List Member) (number : ℕ) (layer : Layer) (place : ℕ) → k ≡ suc left → member_at line last s ≡ Told.refused number layer place → ahead xs (members_at k line last s) ≡ Told.refused number layer place
 rows_stop k left line last s xs number layer place e h = rw (e, h) refl
 
--- all members read: the places are these and the blank ones
-pub places_filled : (count i left line last : ℕ) (s t : List ℕ) (ms : List Member) → i ≡ count → left ≡ 0 → drop i ms ≡ replicate (32 - i) blank → members_at count 9 0 s ≡ ahead (take i ms) (members_at left line last t) → places_at count s ≡ Told.done (ms, t)
-places_filled count i left line last s t ms n e b h =
-    let z : ahead (take i ms) (members_at left line last t) ≡ Told.done (take i ms, t) = rw e (rw append-nil refl) in
-    rw (h ∙ z) (rw (← n) (rw (← b) (rw take-append-drop refl)))
+pub rows_end : (left line last : ℕ) (s : List ℕ) (xs ms : List Member) → left ≡ 0 → xs ≡ ms → ahead xs (members_at left line last s) ≡ Told.done (ms, s)
+rows_end left line last s xs ms e h = rw (e, h) (rw append-nil refl)
 
-pub places_stop : (count : ℕ) (s : List ℕ) (number : ℕ) (layer : Layer) (place : ℕ) → members_at count 9 0 s ≡ Told.refused number layer place → places_at count s ≡ Told.refused number layer place
-places_stop count s number layer place h = rw h refl
+-- all members read: the places are these and the blank ones
+pub places_filled : (count many : ℕ) (b : Member) (s t : List ℕ) (ms : List Member) → many ≡ count → b ≡ blank → members_at many 9 0 s ≡ Told.done (ms, t) → places_at count s ≡ Told.done (ms ++ drop count (replicate 32 b), t)
+places_filled count many b s t ms n e h =
+    let f : members_at count 9 0 s ≡ Told.done (ms, t) = rw (← n) h in
+    rw (f, e) (rw (drop-replicate count 32 blank) refl)

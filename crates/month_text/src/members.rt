@@ -1,8 +1,8 @@
 //! The `user` lines of a month's text.
-ghost use Rattle.std.specs.Prelude.{◌≡◌, ◌≤◌, IfOk};
+ghost use Rattle.std.specs.Prelude.{◌≡◌, ◌≤◌, length, IfOk};
 ghost use Rattle.refusal.specs.Answers.{answer_by};
 ghost use Rattle.month_text.specs.Accepted.{Placed};
-ghost use Rattle.month_text.specs.Members.{member_of, blank, member_lawful, member_at, places_at};
+ghost use Rattle.month_text.specs.Members.{member_of, blank, member_lawful, member_at, members_at, places_at};
 
 use crate::month::Member;
 use crate::ranges::{out_of_range, row};
@@ -52,6 +52,22 @@ fn member_line(place: u32, last: u32, s: &[u8]) -> Result<(Member, &[u8]), Fault
     Ok((member, rest))
 }
 
+/// A line for each of the places, which they fill in their order, and the text after them.
+fn member_lines<'a>(places: &mut [Member], s: &'a [u8]) -> Result<&'a [u8], Fault>
+    requires { length places.old ≤ 32 }
+    ensures { answer_by (λ t. (places.new, t.now)) result ≡ members_at (length places.old) 9 0 s.now }
+{
+    let mut rest = s;
+    let mut last = 0;
+    for (i, place) in places.iter_mut().enumerate() {
+        let (member, after) = member_line(FIRST + i as u32, last, rest)?;
+        *place = member;
+        last = member.account;
+        rest = after;
+    }
+    Ok(rest)
+}
+
 /// The lines of `count` members, in the first of 32 places, and the text after them.
 pub(crate) fn members<'a>(count: usize, s: &'a [u8]) -> Result<([Member; 32], &'a [u8]), Fault>
     requires { count ≤ 32 }
@@ -59,15 +75,6 @@ pub(crate) fn members<'a>(count: usize, s: &'a [u8]) -> Result<([Member; 32], &'
     ensures range { IfOk result (λ p. Placed count p.0) }
 {
     let mut members = [blank(); 32];
-    let mut rest = s;
-    let mut last = 0;
-    let mut place = FIRST;
-    for i in 0..count {
-        let (member, after) = member_line(place, last, rest)?;
-        members[i] = member;
-        last = member.account;
-        rest = after;
-        place += 1;
-    }
+    let rest = member_lines(&mut members[..count], s)?;
     Ok((members, rest))
 }
