@@ -17,7 +17,7 @@ pub struct Member {
 
 /// The three lines of the sheet, in thousandths.
 #[derive(Clone, Copy, PartialEq, Eq, Debug)]
-pub(crate) struct SheetLines {
+pub struct SheetLines {
     pub division: [u32; 6],
     pub management: [u32; 4],
     pub split: [u32; 2],
@@ -28,9 +28,7 @@ pub(crate) struct SheetLines {
 pub struct Month {
     pub month: u32,
     pub rule: RuleName,
-    pub division: [u32; 6],
-    pub management: [u32; 4],
-    pub split: [u32; 2],
+    pub sheet: SheetLines,
     pub cost: [i64; 6],
     pub control: i64,
     pub count: usize,

@@ -57,17 +57,10 @@ fn lines_of(s: &[u8]) -> Result<Month, Fault>
     if !s.is_empty() {
         return Err(off_layout(FIRST + users));
     }
-    let SheetLines {
-        division,
-        management,
-        split,
-    } = sheet;
     Ok(Month {
         month,
         rule,
-        division,
-        management,
-        split,
+        sheet,
         cost,
         control,
         count,
