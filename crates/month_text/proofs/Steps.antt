@@ -47,10 +47,6 @@ past_other [] s h e d = absurd (omega arith)
 past_other (k ∷ ks) [] h e d = absurd (omega arith)
 past_other (k ∷ ks) (x ∷ xs) h e d = grind (arith, nat_tests)
 
-pub past_byte : (b : ℕ) (s : List ℕ) → 1 ≤ length s → get_or s 0 0 ≡ b → past (b ∷ []) s ≡ Some (rest s)
-past_byte b [] e d = absurd (omega arith)
-past_byte b (x ∷ xs) e d = rw take_rest (grind (arith, nat_tests))
-
 -- a sign, where signs are allowed
 integer_signed : (signs : Bool) (s : List ℕ) → signs ≡ true → 1 ≤ length s → get_or s 0 0 ≡ 45 → integer_at signs s ≡ bind (number_at (rest s)) (λ p. bind (minus p.0) (λ z. Some (z, p.1)))
 integer_signed signs [] y e d = absurd (omega arith)

@@ -2,42 +2,20 @@
 ghost use Rattle.std.specs.Prelude.{◌≡◌, ◌≤◌, length, IfOk};
 ghost use Rattle.refusal.specs.Answers.{answer_by};
 ghost use Rattle.month_text.specs.Accepted.{Placed};
-ghost use Rattle.month_text.specs.Members.{member_of, blank, member_lawful, member_at, members_at, places_at};
+ghost use Rattle.month_text.specs.Members.{blank, member_at, members_at, places_at};
 
 use crate::month::Member;
 use crate::ranges::{out_of_range, row};
 use refusal::Fault;
-use std::array;
-use units::facts::Facts;
 
 /// The line of the first member.
 pub(crate) const FIRST: u32 = 9;
-
-/// The member of a row: its account, and then its facts.
-fn member_of(row: [u32; 12]) -> Member
-    ensures { result ≡ member_of row }
-{
-    Member {
-        account: row[0],
-        facts: Facts::of(array::from_fn(|i| row[i + 1])),
-    }
-}
 
 /// What stands in the places that no member has.
 fn blank() -> Member
     ensures { result ≡ blank }
 {
-    Member {
-        account: 0,
-        facts: Facts::of([0; 11]),
-    }
-}
-
-/// Whether the account follows the last one, and the facts are in range.
-fn follows(last: u32, member: Member) -> bool
-    ensures { result ≡ member_lawful last member }
-{
-    last < member.account && member.account <= 999_999 && member.facts.lawful()
+    Member::from([0; 12])
 }
 
 /// One member's line, and the text after it.
@@ -45,8 +23,8 @@ fn member_line(place: u32, last: u32, s: &[u8]) -> Result<(Member, &[u8]), Fault
     ensures { answer_by (λ p. (p.0, p.1.now)) result ≡ member_at place last s.now }
 {
     let (numbers, rest) = row(b"user", 0, 100_000_000, place, s)?;
-    let member = member_of(numbers);
-    if !follows(last, member) {
+    let member = Member::from(numbers);
+    if !member.follows(last) {
         return Err(out_of_range(place));
     }
     Ok((member, rest))

@@ -1,4 +1,8 @@
 //! A month as its text tells it.
+ghost use Rattle.std.specs.Prelude.{◌≡◌};
+ghost use Rattle.month_text.specs.Members.{member_of, member_lawful};
+
+use std::array;
 use units::facts::Facts;
 
 /// How a pool is shared among the members.
@@ -13,6 +17,27 @@ pub enum RuleName {
 pub struct Member {
     pub account: u32,
     pub facts: Facts,
+}
+
+/// A member from a row: its account, and then its facts.
+impl From<[u32; 12]> for Member {
+    ghost from_gives = { λ row member. member ≡ member_of row };
+
+    fn from(row: [u32; 12]) -> Member {
+        Member {
+            account: row[0],
+            facts: Facts::of(array::from_fn(|i| row[i + 1])),
+        }
+    }
+}
+
+impl Member {
+    /// Whether the account follows the last one, and the facts are in range.
+    pub(crate) fn follows(&self, last: u32) -> bool
+        ensures { result ≡ member_lawful last self.now }
+    {
+        last < self.account && self.account <= 999_999 && self.facts.lawful()
+    }
 }
 
 /// The three lines of the sheet, in thousandths.

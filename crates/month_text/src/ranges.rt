@@ -9,6 +9,9 @@ use crate::lines::line;
 use cents::weights::adds_up;
 use refusal::{Fault, Layer, Refusal};
 
+// `low` and `high` are two numbers: a `RangeInclusive` also says whether it is used up, which each clause would rule out.
+// `place` and `s` are two as well: the places are literals in the reader, and a cursor would have to count up to them.
+
 /// The fault of a line that does not have the form that it must have.
 pub(crate) fn off_layout(place: u32) -> Fault
     ensures { result ≡ record { refusal = Refusal.Layout; layer = Layer.Text; place = place } }
@@ -119,6 +122,7 @@ pub(crate) fn weights<'a, const K: usize>(
     ensures range { IfOk result (λ p. EachTo 1000 p.0) }
     ensures whole { IfOk result (λ p. sum p.0 ≡ 1000) }
 {
+    // `?` at a row of `K` numbers beside a text is not covered yet, so the `match` is written out.
     let (weights, rest) = match row::<K>(key, 0, 1000, place, s) {
         Ok(read) => read,
         Err(fault) => return Err(fault),
