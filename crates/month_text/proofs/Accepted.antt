@@ -15,20 +15,20 @@ use Rattle.month_text.specs.Members.{member_of, blank, member_lawful, member_at,
 use Rattle.month_text.specs.Accepted.{EachTo, EachWithin, Rising, EachLawful, Placed}
 
 pub bind_some : {X Y : Type 0} (o : Option X) (k : X → Option Y) (v : Y) → bind o k ≡ Some v → (x : X) × (o ≡ Some x) × (k x ≡ Some v)
-bind_some None k v e = let z : ◌≡◌ {A = ℕ} 0 1 = cc in absurd (omega arith)
+bind_some None k v e = absurd cc
 bind_some (Some x) k v e = (x, refl, e)
 
 pub next_done : {S T : Type 0} (t : Told S) (k : S → Told T) (v : T) → next t k ≡ Told.done v → (x : S) × (t ≡ Told.done x) × (k x ≡ Told.done v)
 next_done (Told.done x) k v e = (x, refl, e)
-next_done (Told.refused n l p) k v e = let z : ◌≡◌ {A = ℕ} 0 1 = cc in absurd (omega arith)
+next_done (Told.refused n l p) k v e = absurd cc
 
 pub test_done : {T : Type 0} (b : Bool) (w v : T) (n : ℕ) (l : Layer) (p : ℕ) → cond b (Told.done w) (Told.refused n l p) ≡ Told.done v → (b ≡ true) × (w ≡ v)
 test_done true w v n l p e = (refl, cc)
-test_done false w v n l p e = let z : ◌≡◌ {A = ℕ} 0 1 = cc in absurd (omega arith)
+test_done false w v n l p e = absurd cc
 
 natural_range : (low high : ℕ) (z : ℤ) (n : ℕ) → natural_in low high z ≡ Some n → n ≤ high
 natural_range low high (pos m) n e = grind (arith, nat_tests)
-natural_range low high (negsuc m) n e = let z : ◌≡◌ {A = ℕ} 0 1 = cc in absurd (omega arith)
+natural_range low high (negsuc m) n e = absurd cc
 
 cons_each : (high n : ℕ) (ns : List ℕ) → n ≤ high → EachTo high ns → EachTo high (n ∷ ns)
 cons_each high n ns h t zero = h

@@ -83,7 +83,7 @@ month_takes s m e =
     (nil_from_length members.0.1 (eqb-true (length members.0.1) 0 last.0)))
 
 not_refused : {T : Type 0} (b : Bool) (n : ℕ) (l : Layer) (p : ℕ) (t : Told T) (v : T) → cond b (Told.refused n l p) t ≡ Told.done v → t ≡ Told.done v
-not_refused true n l p t v e = let z : ◌≡◌ {A = ℕ} 0 1 = cc in absurd (omega arith)
+not_refused true n l p t v e = absurd cc
 not_refused false n l p t v e = e
 
 text_takes : (s : List ℕ) (m : Month) → read_month s ≡ Told.done m → Whole s m

@@ -1,7 +1,8 @@
 -- Lines within their ranges are the spellings of what was read.
-use Rattle.std.proofs.Common.{◌≡◌, ℕ, zero, suc, ◌+◌, ◌-◌, Bool, true, false, cond, ◌&&◌, eqb, leb, List, [], ◌∷◌, ◌++◌, map, length, get_or, take, replicate, ℤ, pos, negsuc, Some, None, codes, sum, Option, sym, refl, ap, ◌∙◌, subst, arith}
+use Rattle.std.proofs.Common.{◌≡◌, ℕ, zero, suc, ◌+◌, ◌-◌, true, false, cond, ◌&&◌, eqb, leb, List, [], ◌∷◌, ◌++◌, map, length, get_or, take, replicate, ℤ, pos, negsuc, Some, None, codes, sum, Option, sym, refl, ap, ◌∙◌, subst, arith}
 use lib.ListN.{length-map}
 use Rattle.std.proofs.lemmas.List.{take_at}
+use Rattle.std.proofs.lemmas.Option.{cond_some}
 use Rattle.cents.proofs.Tabulated.{tabulated}
 use Rattle.std.specs.List.{list_all}
 use Rattle.refusal.specs.declared.Layer.{Layer}
@@ -16,16 +17,12 @@ use Rattle.month_text.proofs.Accepted.{bind_some, next_done, test_done, members_
 use Rattle.month_text.proofs.Taken.{Takes, both, LineTaken, line_takes}
 
 pub or_done : {X T : Type 0} (o : Option X) (n : ℕ) (l : Layer) (p : ℕ) (k : X → Told T) (v : T) → or_else o (Told.refused n l p) k ≡ Told.done v → (x : X) × (o ≡ Some x) × (k x ≡ Told.done v)
-or_done None n l p k v e = let z : ◌≡◌ {A = ℕ} 0 1 = cc in absurd (omega arith)
+or_done None n l p k v e = absurd cc
 or_done (Some x) n l p k v e = (x, refl, e)
 
-cond_some : (b : Bool) (x y : ℕ) → cond b (Some x) None ≡ Some y → x ≡ y
-cond_some true x y e = cc
-cond_some false x y e = let z : ◌≡◌ {A = ℕ} 0 1 = cc in absurd (omega arith)
-
 natural_pos : (low high : ℕ) (z : ℤ) (n : ℕ) → natural_in low high z ≡ Some n → z ≡ pos n
-natural_pos low high (pos m) n e = ap pos (cond_some (leb low m && leb m high) m n e)
-natural_pos low high (negsuc m) n e = let z : ◌≡◌ {A = ℕ} 0 1 = cc in absurd (omega arith)
+natural_pos low high (pos m) n e = ap pos (cond_some (leb low m && leb m high) m n e).1
+natural_pos low high (negsuc m) n e = absurd cc
 
 each_pos : (low high : ℕ) (zs : List ℤ) (ns : List ℕ) → each (natural_in low high) zs ≡ Some ns → zs ≡ map pos ns
 each_pos low high [] ns e =

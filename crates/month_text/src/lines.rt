@@ -6,6 +6,7 @@ ghost use Rattle.month_text.specs.Lines.{past, fields_at, line_at};
 use crate::numbers::integer;
 
 /// The text after `word`, where it begins with it.
+// `strip_prefix` by slice patterns, in which this reader takes each line apart.
 pub(crate) fn after_word<'a>(word: &[u8], s: &'a [u8]) -> Option<&'a [u8]>
     ensures { option_map (λ t. t.now) result ≡ past word.now s.now }
 {

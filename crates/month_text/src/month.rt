@@ -49,6 +49,7 @@ pub struct SheetLines {
 }
 
 /// All lines of a month's text. Members from `count` on are blank.
+// No heap is kept: the month has places for the 32 members that a text may have, and `count` beside them.
 #[derive(Clone, Copy, PartialEq, Eq, Debug)]
 pub struct Month {
     pub month: u32,
