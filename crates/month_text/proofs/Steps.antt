@@ -61,3 +61,10 @@ signed_zero signs s n t y e d f z = rw (integer_signed signs s y e d) (rw f (rw 
 pub signed_some : (signs : Bool) (s : List ℕ) (n : ℕ) (t : List ℕ) → signs ≡ true → 1 ≤ length s → get_or s 0 0 ≡ 45 → number_at (rest s) ≡ Some (n, t) → (n ≡ 0 → ⊥) → integer_at signs s ≡ Some (neg_ℤ (pos n), t)
 signed_some signs s zero t y e d f z = absurd (z refl)
 signed_some signs s (suc n) t y e d f z = rw (integer_signed signs s y e d) (rw f refl)
+
+-- for the functions that take a digit, a word or a sign off the front
+pub ruleset digit_steps = (on_digit, at_digit, on_none, on_below, on_above)
+
+pub ruleset word_steps = (past_none, past_step, past_end, past_other)
+
+pub ruleset sign_steps = (signed_none, signed_zero, signed_some)

@@ -7,6 +7,7 @@ use crate::numbers::integer;
 
 /// The text after `word`, where it begins with it.
 // `strip_prefix` by slice patterns, in which this reader takes each line apart.
+#[tactic(auto, using(crate::proofs::Steps::word_steps))]
 pub(crate) fn after_word<'a>(word: &[u8], s: &'a [u8]) -> Option<&'a [u8]>
     ensures { option_map (λ t. t.now) result ≡ past word.now s.now }
 {
