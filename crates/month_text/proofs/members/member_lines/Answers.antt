@@ -1,12 +1,9 @@
 use Rattle.std.proofs.Common.{◌≡◌, suc, ◌+◌, ◌-◌, ◌<◌, length, take, sym, ◌∙◌, arith}
-use Rattle.std.proofs.lemmas.List.{take_all, take_more_set}
+use Rattle.std.proofs.lemmas.List.{take_more_set}
 use Rattle.std.proofs.lemmas.Result.{err_from_is_err_and}
 use Rattle.refusal.specs.Answers.{number}
-use Rattle.month_text.proofs.Rows.{rows_start, rows_more, rows_stop, rows_end}
+use Rattle.month_text.proofs.Rows.{rows_more, rows_stop}
 use Rattle.month_text.proofs.members.member_lines.Goals as goal
-
-pub loop-i-init : goal.loop-i-init
-loop-i-init c = rows_start (length c.args.places.now) (length c.args.places.now - 0) 9 0 c.args.s.now (omega arith)
 
 pub returns-in_err-member : goal.returns-in_err-member
 returns-in_err-member c =
@@ -27,8 +24,3 @@ loop-i-preserved c =
     let line : 9 + (c.loop-i.i + 1) ≡ 9 + c.loop-i.i + 1 = omega arith in
     let d = rows_more (n - c.loop-i.i) (n - (c.loop-i.i + 1)) (9 + c.loop-i.i) (9 + (c.loop-i.i + 1)) c.loop-i.last c.loop-i.rest.now m c.in_ok-member.after.now (take c.loop-i.i ms) k line (sym c.in_ok-member.ensures) in
     rw (take_more_set ms c.loop-i.i m l) (c.loop-i.invariant ∙ d)
-
-pub returns : goal.returns
-returns c =
-    let all = take_all c.loop-i.i c.loop-i.places (omega arith) in
-    sym (c.loop-i.invariant ∙ rows_end (length c.args.places.now - c.loop-i.i) (9 + c.loop-i.i) c.loop-i.last c.loop-i.rest.now (take c.loop-i.i c.loop-i.places) c.loop-i.places (omega arith) all)
