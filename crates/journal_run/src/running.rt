@@ -38,7 +38,7 @@ impl Ran {
 
 fn month_sheet(month: &Month) -> Result<Sheet, Fault> {
     let mut sheet = Sheet::even();
-    sheet.lay(month.division, month.management, month.split)?;
+    sheet.lay(month.sheet.division, month.sheet.management, month.sheet.split)?;
     Ok(sheet)
 }
 

@@ -2,7 +2,7 @@
 use month_text::month::Month;
 
 /// What an entry asks for.
-#[derive(Clone, Copy)]
+#[derive(Clone, Copy, PartialEq, Eq, Debug)]
 pub enum Action {
     /// Book the month's costs and bill it.
     Bill,
@@ -11,7 +11,7 @@ pub enum Action {
 }
 
 /// An action, the line of the journal that asks for it, and the month that it is for.
-#[derive(Clone, Copy)]
+#[derive(Clone, Copy, PartialEq, Eq, Debug)]
 pub struct Entry {
     pub action: Action,
     pub line: u32,

@@ -16,14 +16,14 @@ pub(crate) struct Piece<'a> {
 fn month_length(text: &[u8]) -> usize
     ensures { result ≤ length text.now }
 {
-    let mut line_begins = true;
-    for i in 0..text.len() {
-        if line_begins && begins_entry(&text[i..]) {
-            return i;
+    let mut length = 0;
+    for line in text.split_inclusive(|byte| *byte == b'\n') {
+        if begins_entry(line) {
+            break;
         }
-        line_begins = text[i] == b'\n';
+        length += line.len();
     }
-    text.len()
+    length
 }
 
 /// The first entry; nothing where the first line begins none.
@@ -32,8 +32,7 @@ pub(crate) fn first_piece(text: &[u8]) -> Option<Piece<'_>>
 {
     let (action, after) = entry_line(text)?;
     let end = month_length(after);
-    let month = &after[0..end];
-    let rest = &after[end..];
+    let (month, rest) = after.split_at(end);
     Some(Piece {
         action,
         month,
@@ -43,11 +42,6 @@ pub(crate) fn first_piece(text: &[u8]) -> Option<Piece<'_>>
 
 /// How many lines end in a text.
 pub(crate) fn line_count(text: &[u8]) -> u32 {
-    let mut count = 0u32;
-    for byte in text {
-        if *byte == b'\n' {
-            count = count.saturating_add(1);
-        }
-    }
-    count
+    let lines = text.iter().filter(|byte| **byte == b'\n').count();
+    u32::try_from(lines).unwrap_or(u32::MAX)
 }

@@ -22,25 +22,22 @@ fn next_piece(is_first: bool, text: &[u8]) -> Option<Piece<'_>>
 
 /// The entry of a piece whose first line is `line`; a fault's line counts over the whole journal.
 fn read_entry(piece: &Piece<'_>, line: u32) -> Result<Entry, Fault> {
-    match read(piece.month) {
-        Ok(month) => Ok(Entry {
-            action: piece.action,
-            line,
-            month,
-        }),
-        Err(fault) => Err(Layer::Text.refuses_at(fault.refusal, line.saturating_add(fault.place))),
-    }
+    let month = read(piece.month).map_err(|fault| {
+        Layer::Text.refuses_at(fault.refusal, line.saturating_add(fault.place))
+    })?;
+    Ok(Entry {
+        action: piece.action,
+        line,
+        month,
+    })
 }
 
 /// The ledger is opened once, on the first entry's terms: other terms would not be used.
 fn check_terms(first: Option<&Entry>, entry: &Entry) -> Result<(), Fault> {
-    match first {
-        Some(first) if !same_terms(&first.month, &entry.month) => Err(Layer::Text.refuses_at(
-            Refusal::Range,
-            entry.line,
-        )),
-        _ => Ok(()),
+    if first.is_some_and(|first| !same_terms(&first.month, &entry.month)) {
+        return Err(Layer::Text.refuses_at(Refusal::Range, entry.line));
     }
+    Ok(())
 }
 
 /// All entries of a journal, which has one at least, or the first line that is refused.

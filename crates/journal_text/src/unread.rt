@@ -3,7 +3,7 @@ use refusal::Fault;
 use std::alloc::{AllocError, AllocFailed};
 
 /// A line that is refused, or no memory for the entries.
-#[derive(Drop)]
+#[derive(Debug, Drop)]
 pub enum Unread {
     Line(Fault),
     Memory,

@@ -24,7 +24,7 @@ no_heads = pos 0 ∷ pos 0 ∷ pos 0 ∷ pos 0 ∷ pos 0 ∷ pos 0 ∷ []
 
 -- division weights, management weights, splits
 abbrev pub month_sheet : Month → Told (List ℕ × List ℕ × List ℕ)
-month_sheet m = next (sheet_rule m.division m.management m.split) (λ _. done (m.division, m.management, m.split))
+month_sheet m = next (sheet_rule m.sheet.division m.sheet.management m.sheet.split) (λ _. done (m.sheet.division, m.sheet.management, m.sheet.split))
 
 -- the sheet is laid, the costs are booked on empty heads by a balanced voucher, and the sheet cuts them
 abbrev pub month_pools : Month → Told (List ℤ)

@@ -4,30 +4,31 @@ use lib.ListN.{length-replicate}
 use Rattle.std.proofs.lemmas.List.{take_at}
 use Rattle.std.proofs.lemmas.Bool.{leb-true, ltb-true, and_parts}
 use Rattle.std.proofs.lemmas.Bool.Decides.{nat_tests}
+use Rattle.std.specs.List.{list_all}
 use Rattle.refusal.specs.declared.Layer.{Layer}
 use Rattle.refusal.specs.Answers.{Told, next}
 use Rattle.units.specs.Kinds.{lawful}
 use Rattle.month_text.specs.declared.month.Member.{Member}
 use Rattle.month_text.specs.Numbers.{bind}
-use Rattle.month_text.specs.Ranges.{each, natural_in, amount_in, all, row_at, out_of_range}
+use Rattle.month_text.specs.Ranges.{each, natural_in, amount_in, row_at, out_of_range}
 use Rattle.month_text.specs.Members.{member_of, blank, member_lawful, member_at, members_at, places_at}
 use Rattle.month_text.specs.Accepted.{EachTo, EachWithin, Rising, EachLawful, Placed}
 
 pub bind_some : {X Y : Type 0} (o : Option X) (k : X → Option Y) (v : Y) → bind o k ≡ Some v → (x : X) × (o ≡ Some x) × (k x ≡ Some v)
-bind_some None k v e = let z : ◌≡◌ {A = ℕ} 0 1 = cc in absurd (omega arith)
+bind_some None k v e = absurd cc
 bind_some (Some x) k v e = (x, refl, e)
 
 pub next_done : {S T : Type 0} (t : Told S) (k : S → Told T) (v : T) → next t k ≡ Told.done v → (x : S) × (t ≡ Told.done x) × (k x ≡ Told.done v)
 next_done (Told.done x) k v e = (x, refl, e)
-next_done (Told.refused n l p) k v e = let z : ◌≡◌ {A = ℕ} 0 1 = cc in absurd (omega arith)
+next_done (Told.refused n l p) k v e = absurd cc
 
 pub test_done : {T : Type 0} (b : Bool) (w v : T) (n : ℕ) (l : Layer) (p : ℕ) → cond b (Told.done w) (Told.refused n l p) ≡ Told.done v → (b ≡ true) × (w ≡ v)
 test_done true w v n l p e = (refl, cc)
-test_done false w v n l p e = let z : ◌≡◌ {A = ℕ} 0 1 = cc in absurd (omega arith)
+test_done false w v n l p e = absurd cc
 
 natural_range : (low high : ℕ) (z : ℤ) (n : ℕ) → natural_in low high z ≡ Some n → n ≤ high
 natural_range low high (pos m) n e = grind (arith, nat_tests)
-natural_range low high (negsuc m) n e = let z : ◌≡◌ {A = ℕ} 0 1 = cc in absurd (omega arith)
+natural_range low high (negsuc m) n e = absurd cc
 
 cons_each : (high n : ℕ) (ns : List ℕ) → n ≤ high → EachTo high ns → EachTo high (n ∷ ns)
 cons_each high n ns h t zero = h
@@ -43,10 +44,10 @@ each_range low high (z ∷ zs) ns e =
     let n : a.0 ∷ b.0 ≡ ns = cc b.2 in
     subst (EachTo high) n (cons_each high a.0 b.0 (natural_range low high z a.0 a.1) (each_range low high zs b.0 b.1))
 
-pub all_within : (most : ℕ) (zs : List ℤ) → all (amount_in most) zs ≡ true → EachWithin most zs
+pub all_within : (most : ℕ) (zs : List ℤ) → list_all (amount_in most) zs ≡ true → EachWithin most zs
 all_within most [] e k = omega arith
-all_within most (z ∷ zs) e zero = leb-true (nat_abs z) most (and_parts (amount_in most z) (all (amount_in most) zs) e).0
-all_within most (z ∷ zs) e (suc k) = all_within most zs (and_parts (amount_in most z) (all (amount_in most) zs) e).1 k
+all_within most (z ∷ zs) e zero = leb-true (nat_abs z) most (and_parts (amount_in most z) (list_all (amount_in most) zs) e).0
+all_within most (z ∷ zs) e (suc k) = all_within most zs (and_parts (amount_in most z) (list_all (amount_in most) zs) e).1 k
 
 member_lawful_lem : (line last : ℕ) (s : List ℕ) (v : Member × List ℕ) → member_at line last s ≡ Told.done v → member_lawful last v.0 ≡ true
 member_lawful_lem line last s v e =

@@ -1,5 +1,5 @@
--- One number more of a line.
-use Rattle.std.proofs.Common.{◌≡◌, ℕ, suc, Bool, List, [], ◌∷◌, ◌++◌, ℤ, Some, None, Option, refl, append_assoc, append-nil}
+-- One number more of a line, and a line that breaks off.
+use Rattle.std.proofs.Common.{◌≡◌, ℕ, suc, Bool, List, [], ◌∷◌, ◌++◌, ℤ, Some, None, Option, refl, append_assoc}
 use Rattle.month_text.specs.Numbers.{bind, integer_at}
 use Rattle.month_text.specs.Lines.{past, stop, fields_at}
 
@@ -12,21 +12,8 @@ onto_more : {X Y : Type 0} (xs : List X) (x : X) (o : Option (List X × Y)) → 
 onto_more xs x None = refl
 onto_more xs x (Some q) = rw append_assoc refl
 
-onto_none : {X Y : Type 0} (o : Option (List X × Y)) → o ≡ onto [] o
-onto_none None = refl
-onto_none (Some q) = refl
-
-pub fields_start : (signs : Bool) (k left : ℕ) (s : List ℕ) → left ≡ k → fields_at signs k s ≡ onto [] (fields_at signs left s)
-fields_start signs k left s e = rw e (onto_none (fields_at signs k s))
-
-pub fields_end : (signs : Bool) (left : ℕ) (s : List ℕ) (xs ys : List ℤ) → left ≡ 0 → xs ≡ ys → onto xs (fields_at signs left s) ≡ Some (ys, s)
-fields_end signs left s xs ys e h = rw (e, h) (rw append-nil refl)
-
 pub fields_more : (signs : Bool) (k left : ℕ) (s : List ℕ) (z : ℤ) (b : ℕ) (t u : List ℕ) (xs : List ℤ) → k ≡ suc left → integer_at signs s ≡ Some (z, t) → b ≡ stop left → past (b ∷ []) t ≡ Some u → onto xs (fields_at signs k s) ≡ onto (xs ++ z ∷ []) (fields_at signs left u)
 fields_more signs k left s z b t u xs e i h p = let p2 : past (stop left ∷ []) t ≡ Some u = rw (← h) p in rw (e, i, p2) (onto_more xs z (fields_at signs left u))
-
-pub fields_no_number : (signs : Bool) (k left : ℕ) (s : List ℕ) (xs : List ℤ) → k ≡ suc left → integer_at signs s ≡ None → onto xs (fields_at signs k s) ≡ None
-fields_no_number signs k left s xs e i = rw (e, i) refl
 
 pub fields_no_stop : (signs : Bool) (k left : ℕ) (s : List ℕ) (z : ℤ) (b : ℕ) (t : List ℕ) (xs : List ℤ) → k ≡ suc left → integer_at signs s ≡ Some (z, t) → b ≡ stop left → past (b ∷ []) t ≡ None → onto xs (fields_at signs k s) ≡ None
 fields_no_stop signs k left s z b t xs e i h p = let p2 : past (stop left ∷ []) t ≡ None = rw (← h) p in rw (e, i, p2) refl

@@ -52,7 +52,7 @@ record Whole (s : List ℕ) (m : Month) : Type 0 where
   text : s ≡ spelled m
   lines : breaks s ≡ 8 + m.count
 
-whole : {t1 t2 t3 t4 t5 t6 t7 : List ℕ} (s : List ℕ) (m : Month) → Takes s (spelled_line (codes "month") (pos m.month ∷ [])) 1 t1 → Takes t1 (spelled_rule m.rule) 1 t2 → Takes t2 (spelled_sheet m.division m.management m.split) 3 t3 → Takes t3 (spelled_line (codes "cost") m.cost) 1 t4 → Takes t4 (spelled_line (codes "control") (m.control ∷ [])) 1 t5 → Takes t5 (spelled_line (codes "users") (pos m.count ∷ [])) 1 t6 → Takes t6 (spelled_members (take m.count m.members)) m.count t7 → t7 ≡ [] → Whole s m
+whole : {t1 t2 t3 t4 t5 t6 t7 : List ℕ} (s : List ℕ) (m : Month) → Takes s (spelled_line (codes "month") (pos m.month ∷ [])) 1 t1 → Takes t1 (spelled_rule m.rule) 1 t2 → Takes t2 (spelled_sheet m.sheet.division m.sheet.management m.sheet.split) 3 t3 → Takes t3 (spelled_line (codes "cost") m.cost) 1 t4 → Takes t4 (spelled_line (codes "control") (m.control ∷ [])) 1 t5 → Takes t5 (spelled_line (codes "users") (pos m.count ∷ [])) 1 t6 → Takes t6 (spelled_members (take m.count m.members)) m.count t7 → t7 ≡ [] → Whole s m
 unfolding spelled
 whole s m month rule sheet cost control users members end =
     let all = both month (both rule (both sheet (both cost (both control (both users members))))) in
@@ -83,7 +83,7 @@ month_takes s m e =
     (nil_from_length members.0.1 (eqb-true (length members.0.1) 0 last.0)))
 
 not_refused : {T : Type 0} (b : Bool) (n : ℕ) (l : Layer) (p : ℕ) (t : Told T) (v : T) → cond b (Told.refused n l p) t ≡ Told.done v → t ≡ Told.done v
-not_refused true n l p t v e = let z : ◌≡◌ {A = ℕ} 0 1 = cc in absurd (omega arith)
+not_refused true n l p t v e = absurd cc
 not_refused false n l p t v e = e
 
 text_takes : (s : List ℕ) (m : Month) → read_month s ≡ Told.done m → Whole s m

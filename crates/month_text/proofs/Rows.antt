@@ -1,6 +1,6 @@
 -- One member's line more.
-use Rattle.std.proofs.Common.{◌≡◌, ℕ, suc, ◌+◌, ◌-◌, List, [], ◌∷◌, ◌++◌, take, drop, replicate, refl, ◌∙◌, append_assoc, append-nil}
-use Rattle.std.proofs.lemmas.List.{take-append-drop}
+use Rattle.std.proofs.Common.{◌≡◌, ℕ, suc, ◌+◌, List, [], ◌∷◌, ◌++◌, drop, replicate, refl, append_assoc}
+use Rattle.std.proofs.lemmas.List.{drop-replicate}
 use Rattle.refusal.specs.declared.Layer.{Layer}
 use Rattle.refusal.specs.Answers.{Told, next}
 use Rattle.month_text.specs.declared.month.Member.{Member}
@@ -15,13 +15,6 @@ ahead_more : {X Y : Type 0} (xs : List X) (x : X) (o : Told (List X × Y)) → a
 ahead_more xs x (Told.done q) = rw append_assoc refl
 ahead_more xs x (Told.refused n l p) = refl
 
-ahead_none : {X Y : Type 0} (o : Told (List X × Y)) → o ≡ ahead [] o
-ahead_none (Told.done q) = refl
-ahead_none (Told.refused n l p) = refl
-
-pub rows_start : (k left line last : ℕ) (s : List ℕ) → left ≡ k → members_at k line last s ≡ ahead [] (members_at left line last s)
-rows_start k left line last s e = rw e (ahead_none (members_at k line last s))
-
 pub rows_more : (k left line next-line last : ℕ) (s : List ℕ) (m : Member) (t : List ℕ) (xs : List Member) → k ≡ suc left → next-line ≡ line + 1 → member_at line last s ≡ Told.done (m, t) → ahead xs (members_at k line last s) ≡ ahead (xs ++ m ∷ []) (members_at left next-line m.account t)
 rows_more k left line next-line last s m t xs e n h = rw (e, n, h) (ahead_more xs m (members_at left (line + 1) m.account t))
 
@@ -29,10 +22,7 @@ pub rows_stop : (k left line last : ℕ) (s : List ℕ) (xs : List Member) (numb
 rows_stop k left line last s xs number layer place e h = rw (e, h) refl
 
 -- all members read: the places are these and the blank ones
-pub places_filled : (count i left line last : ℕ) (s t : List ℕ) (ms : List Member) → i ≡ count → left ≡ 0 → drop i ms ≡ replicate (32 - i) blank → members_at count 9 0 s ≡ ahead (take i ms) (members_at left line last t) → places_at count s ≡ Told.done (ms, t)
-places_filled count i left line last s t ms n e b h =
-    let z : ahead (take i ms) (members_at left line last t) ≡ Told.done (take i ms, t) = rw e (rw append-nil refl) in
-    rw (h ∙ z) (rw (← n) (rw (← b) (rw take-append-drop refl)))
-
-pub places_stop : (count : ℕ) (s : List ℕ) (number : ℕ) (layer : Layer) (place : ℕ) → members_at count 9 0 s ≡ Told.refused number layer place → places_at count s ≡ Told.refused number layer place
-places_stop count s number layer place h = rw h refl
+pub places_filled : (count many : ℕ) (b : Member) (s t : List ℕ) (ms : List Member) → many ≡ count → b ≡ blank → members_at many 9 0 s ≡ Told.done (ms, t) → places_at count s ≡ Told.done (ms ++ drop count (replicate 32 b), t)
+places_filled count many b s t ms n e h =
+    let f : members_at count 9 0 s ≡ Told.done (ms, t) = rw (← n) h in
+    rw (f, e) (rw (drop-replicate count 32 blank) refl)

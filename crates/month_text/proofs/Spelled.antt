@@ -31,11 +31,12 @@ read_if_spelled s n t h =
 abbrev From : ℕ → List ℕ → ℕ × List ℕ → Type 0
 From n cs v = (decimal n ++ cs ≡ decimal v.0 ++ v.1) × (v.0 < 100000000000) × (is_digit (get_or v.1 0 0) ≡ false)
 
+digit_range : (c : ℕ) → is_digit c ≡ true → (48 ≤ c) × (c ≤ 57)
+digit_range c d = let a = and_parts (leb 48 c) (leb c 57) d in (leb-true 48 c a.0, leb-true c 57 a.1)
+
 digit_on : (n c : ℕ) (cs : List ℕ) → is_digit c ≡ true → 0 < n → n < 10000000000 → decimal n ++ (c ∷ cs) ≡ decimal (n * 10 + (c - 48)) ++ cs
 digit_on n c cs d p q =
-    let a = and_parts (leb 48 c) (leb c 57) d in
-    let low = leb-true 48 c a.0 in
-    let high = leb-true c 57 a.1 in
+    let r = digit_range c d in
     let tens : (n * 10 + (c - 48)) / 10 ≡ n = omega arith in
     let ones : 48 + (n * 10 + (c - 48)) % 10 ≡ c = omega arith in
     let step = decimal_step (n * 10 + (c - 48)) (omega arith) (omega arith) in
@@ -46,11 +47,10 @@ from_cases n c cs v true true hd hb small e ih =
     let a = and_parts (ltb 0 n) (ltb n 10000000000) hb in
     let p = ltb-true 0 n a.0 in
     let q = ltb-true n 10000000000 a.1 in
-    let f = and_parts (leb 48 c) (leb c 57) hd in
-    let high = leb-true c 57 f.1 in
+    let f = digit_range c hd in
     let r = ih (n * 10 + (c - 48)) (omega arith) e in
     (digit_on n c cs hd p q ∙ r.0, r.1, r.2)
-from_cases n c cs v true false hd hb small e ih = let z : ◌≡◌ {A = ℕ} 0 1 = cc in absurd (omega arith)
+from_cases n c cs v true false hd hb small e ih = absurd cc
 from_cases n c cs v false b hd hb small e ih =
     let d : (n, c ∷ cs) ≡ v = cc in
     subst (From n (c ∷ cs)) d (refl, small, hd)
@@ -64,18 +64,16 @@ from_digits n (c ∷ cs) v small e =
 
 first_digit : (c : ℕ) (cs : List ℕ) (v : ℕ × List ℕ) (d : Bool) → is_digit c ≡ d → cond d (digits_on (c - 48) cs) None ≡ Some v → Spelled (c ∷ cs) v.0 v.1
 first_digit c cs v true hd e =
-    let f = and_parts (leb 48 c) (leb c 57) hd in
-    let low = leb-true 48 c f.0 in
-    let high = leb-true c 57 f.1 in
+    let f = digit_range c hd in
     let r = from_digits (c - 48) cs v (omega arith) e in
     let b : 48 + (c - 48) ≡ c = omega arith in
     let w : decimal (c - 48) ≡ c ∷ [] = decimal_digit (c - 48) (omega arith) ∙ ap (λ x. x ∷ []) b in
     (sym (ap (λ ds. ds ++ cs) w) ∙ r.0, r.1, r.2)
-first_digit c cs v false hd e = let z : ◌≡◌ {A = ℕ} 0 1 = cc in absurd (omega arith)
+first_digit c cs v false hd e = absurd cc
 
 -- what is read is spelled
 spelled_if_read : (s : List ℕ) (v : ℕ × List ℕ) → number_at s ≡ Some v → Spelled s v.0 v.1
-spelled_if_read [] v e = let z : ◌≡◌ {A = ℕ} 0 1 = cc in absurd (omega arith)
+spelled_if_read [] v e = absurd cc
 spelled_if_read (c ∷ cs) v e = first_digit c cs v (is_digit c) refl e
 
 pub read_as_spelled : (s : List ℕ) → ReadAsSpelled s

@@ -47,10 +47,6 @@ past_other [] s h e d = absurd (omega arith)
 past_other (k ∷ ks) [] h e d = absurd (omega arith)
 past_other (k ∷ ks) (x ∷ xs) h e d = grind (arith, nat_tests)
 
-pub past_byte : (b : ℕ) (s : List ℕ) → 1 ≤ length s → get_or s 0 0 ≡ b → past (b ∷ []) s ≡ Some (rest s)
-past_byte b [] e d = absurd (omega arith)
-past_byte b (x ∷ xs) e d = rw take_rest (grind (arith, nat_tests))
-
 -- a sign, where signs are allowed
 integer_signed : (signs : Bool) (s : List ℕ) → signs ≡ true → 1 ≤ length s → get_or s 0 0 ≡ 45 → integer_at signs s ≡ bind (number_at (rest s)) (λ p. bind (minus p.0) (λ z. Some (z, p.1)))
 integer_signed signs [] y e d = absurd (omega arith)
@@ -65,3 +61,10 @@ signed_zero signs s n t y e d f z = rw (integer_signed signs s y e d) (rw f (rw 
 pub signed_some : (signs : Bool) (s : List ℕ) (n : ℕ) (t : List ℕ) → signs ≡ true → 1 ≤ length s → get_or s 0 0 ≡ 45 → number_at (rest s) ≡ Some (n, t) → (n ≡ 0 → ⊥) → integer_at signs s ≡ Some (neg_ℤ (pos n), t)
 signed_some signs s zero t y e d f z = absurd (z refl)
 signed_some signs s (suc n) t y e d f z = rw (integer_signed signs s y e d) (rw f refl)
+
+-- for the functions that take a digit, a word or a sign off the front
+pub ruleset digit_steps = (on_digit, at_digit, on_none, on_below, on_above)
+
+pub ruleset word_steps = (past_none, past_step, past_end, past_other)
+
+pub ruleset sign_steps = (signed_none, signed_zero, signed_some)

@@ -26,11 +26,11 @@ past_cases k c ks cs t true h e ih =
     let a = eqb-true c k h in
     let r = ih e in
     λ i. a i ∷ r i
-past_cases k c ks cs t false h e ih = let z : ◌≡◌ {A = ℕ} 0 1 = cc in absurd (omega arith)
+past_cases k c ks cs t false h e ih = absurd cc
 
 pub past_front : (w s t : List ℕ) → past w s ≡ Some t → s ≡ w ++ t
 past_front [] s t e = cc
-past_front (k ∷ ks) [] t e = let z : ◌≡◌ {A = ℕ} 0 1 = cc in absurd (omega arith)
+past_front (k ∷ ks) [] t e = absurd cc
 past_front (k ∷ ks) (c ∷ cs) t e = past_cases k c ks cs t (eqb c k) refl e (past_front ks cs t)
 
 -- digits are not byte 10
@@ -74,7 +74,7 @@ integer_cases signs c cs v false h e =
     subst (IntegerTaken (c ∷ cs)) d (number_takes (c ∷ cs) a.0 a.1)
 
 integer_takes : (signs : Bool) (s : List ℕ) (v : ℤ × List ℕ) → integer_at signs s ≡ Some v → IntegerTaken s v
-integer_takes signs [] v e = let z : ◌≡◌ {A = ℕ} 0 1 = cc in absurd (omega arith)
+integer_takes signs [] v e = absurd cc
 integer_takes signs (c ∷ cs) v e = integer_cases signs c cs v (signs && eqb c 45) refl e
 
 -- byte 10 stands once after some numbers, and not after none

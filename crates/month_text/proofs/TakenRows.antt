@@ -1,30 +1,28 @@
 -- Lines within their ranges are the spellings of what was read.
-use Rattle.std.proofs.Common.{◌≡◌, ℕ, zero, suc, ◌+◌, ◌-◌, Bool, true, false, cond, ◌&&◌, eqb, leb, List, [], ◌∷◌, ◌++◌, map, length, get_or, take, replicate, ℤ, pos, negsuc, Some, None, codes, sum, Option, sym, refl, ap, ◌∙◌, subst, arith}
+use Rattle.std.proofs.Common.{◌≡◌, ℕ, zero, suc, ◌+◌, ◌-◌, true, false, cond, ◌&&◌, eqb, leb, List, [], ◌∷◌, ◌++◌, map, length, get_or, take, replicate, ℤ, pos, negsuc, Some, None, codes, sum, Option, sym, refl, ap, ◌∙◌, subst, arith}
 use lib.ListN.{length-map}
 use Rattle.std.proofs.lemmas.List.{take_at}
+use Rattle.std.proofs.lemmas.Option.{cond_some}
 use Rattle.cents.proofs.Tabulated.{tabulated}
+use Rattle.std.specs.List.{list_all}
 use Rattle.refusal.specs.declared.Layer.{Layer}
 use Rattle.refusal.specs.Answers.{Told, next}
 use Rattle.month_text.specs.declared.month.Member.{Member}
 use Rattle.month_text.specs.Numbers.{bind}
 use Rattle.month_text.specs.Lines.{line_at}
-use Rattle.month_text.specs.Ranges.{out_of_range, off_balance, or_else, each, natural_in, amount_in, all, number_at_line, row_at, amounts_at, weights_at}
+use Rattle.month_text.specs.Ranges.{out_of_range, off_balance, or_else, each, natural_in, amount_in, number_at_line, row_at, amounts_at, weights_at}
 use Rattle.month_text.specs.Members.{member_of, blank, member_lawful, member_at, members_at, places_at}
 use Rattle.month_text.specs.OneSpelling.{spelled_line, row_of, spelled_member, spelled_members, breaks}
 use Rattle.month_text.proofs.Accepted.{bind_some, next_done, test_done, members_kept}
 use Rattle.month_text.proofs.Taken.{Takes, both, LineTaken, line_takes}
 
 pub or_done : {X T : Type 0} (o : Option X) (n : ℕ) (l : Layer) (p : ℕ) (k : X → Told T) (v : T) → or_else o (Told.refused n l p) k ≡ Told.done v → (x : X) × (o ≡ Some x) × (k x ≡ Told.done v)
-or_done None n l p k v e = let z : ◌≡◌ {A = ℕ} 0 1 = cc in absurd (omega arith)
+or_done None n l p k v e = absurd cc
 or_done (Some x) n l p k v e = (x, refl, e)
 
-cond_some : (b : Bool) (x y : ℕ) → cond b (Some x) None ≡ Some y → x ≡ y
-cond_some true x y e = cc
-cond_some false x y e = let z : ◌≡◌ {A = ℕ} 0 1 = cc in absurd (omega arith)
-
 natural_pos : (low high : ℕ) (z : ℤ) (n : ℕ) → natural_in low high z ≡ Some n → z ≡ pos n
-natural_pos low high (pos m) n e = ap pos (cond_some (leb low m && leb m high) m n e)
-natural_pos low high (negsuc m) n e = let z : ◌≡◌ {A = ℕ} 0 1 = cc in absurd (omega arith)
+natural_pos low high (pos m) n e = ap pos (cond_some (leb low m && leb m high) m n e).1
+natural_pos low high (negsuc m) n e = absurd cc
 
 each_pos : (low high : ℕ) (zs : List ℤ) (ns : List ℕ) → each (natural_in low high) zs ≡ Some ns → zs ≡ map pos ns
 each_pos low high [] ns e =
@@ -73,8 +71,8 @@ weights_takes key left line s v h e =
 
 pub amounts_takes : (key : List ℕ) (left most line : ℕ) (s : List ℕ) (v : List ℤ × List ℕ) → breaks key ≡ 0 → amounts_at key (suc left) most line s ≡ Told.done v → LineTaken key s (suc left) v
 amounts_takes key left most line s v h e =
-    let a = or_done (line_at key true (suc left) s) 1 Layer.Text line (λ p. cond (all (amount_in most) p.0) (Told.done p) (out_of_range line)) v e in
-    let b = test_done (all (amount_in most) a.0.0) a.0 v 2 Layer.Text line a.2 in
+    let a = or_done (line_at key true (suc left) s) 1 Layer.Text line (λ p. cond (list_all (amount_in most) p.0) (Told.done p) (out_of_range line)) v e in
+    let b = test_done (list_all (amount_in most) a.0.0) a.0 v 2 Layer.Text line a.2 in
     subst (LineTaken key s (suc left)) b.1 (line_takes key true left s a.0 h a.1)
 
 -- a row of twelve numbers is told whole by its member

@@ -38,7 +38,7 @@ pub record Weighed (division management split : List ℕ) : Type 0 where
 pub record InRange (m : Month) : Type 0 where
   pub month_low : 24277 ≤ m.month
   pub month_high : m.month ≤ 35999
-  pub weighed : Weighed m.division m.management m.split
+  pub weighed : Weighed m.sheet.division m.sheet.management m.sheet.split
   pub cost_each : EachWithin 4000000000 m.cost
   pub control_within : unsigned_abs m.control ≤ 24000000000
   pub count_low : 1 ≤ m.count

@@ -38,9 +38,7 @@ month_at s =
     (Told.done (record {
       month = month.0;
       rule = rule.0;
-      division = sheet.0.division;
-      management = sheet.0.management;
-      split = sheet.0.split;
+      sheet = sheet.0;
       cost = cost.0;
       control = slice_index_or control.0 0 (pos 0);
       count = users.0;

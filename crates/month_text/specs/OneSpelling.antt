@@ -57,7 +57,7 @@ unfoldable pub spelled : Month → List ℕ
 spelled m =
     spelled_line (codes "month") (pos m.month ∷ [])
     ++ (spelled_rule m.rule
-    ++ (spelled_sheet m.division m.management m.split
+    ++ (spelled_sheet m.sheet.division m.sheet.management m.sheet.split
     ++ (spelled_line (codes "cost") m.cost
     ++ (spelled_line (codes "control") (m.control ∷ [])
     ++ (spelled_line (codes "users") (pos m.count ∷ [])

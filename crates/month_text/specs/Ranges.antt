@@ -1,5 +1,6 @@
 -- The numbers of a line within their range, else the refusal that the line gets.
 use Rattle.std.specs.Prelude.{ℕ, Bool, true, false, cond, ◌&&◌, List, [], ◌∷◌, ℤ, pos, negsuc, Some, None, sum, Option, ◌==◌, nat_le, slice_index_or, unsigned_abs}
+use Rattle.std.specs.List.{list_all}
 use Rattle.refusal.specs.declared.Layer.TheVariants.{Text, Sheet}
 use Rattle.refusal.specs.Answers.{Told, next}
 use Rattle.month_text.specs.Numbers.{bind}
@@ -34,11 +35,6 @@ natural_in low high (negsuc n) = None
 abbrev pub amount_in : ℕ → ℤ → Bool
 amount_in most z = nat_le (unsigned_abs z) most
 
--- the test on each element
-abbrev pub all : {X : Type 0} → (X → Bool) → List X → Bool
-all p [] = true
-all p (x ∷ xs) = p x && all p xs
-
 -- a line of one number from low to high
 abbrev pub number_at_line : List ℕ → ℕ → ℕ → ℕ → List ℕ → Told (ℕ × List ℕ)
 number_at_line key low high line s =
@@ -54,7 +50,7 @@ row_at key count low high line s =
 -- a line of signed amounts
 abbrev pub amounts_at : List ℕ → ℕ → ℕ → ℕ → List ℕ → Told (List ℤ × List ℕ)
 amounts_at key count most line s =
-    or_else (line_at key true count s) (off_layout line) (λ p. cond (all (amount_in most) p.0) (Told.done p) (out_of_range line))
+    or_else (line_at key true count s) (off_layout line) (λ p. cond (list_all (amount_in most) p.0) (Told.done p) (out_of_range line))
 
 -- a line of thousandths that add up to 1,000
 abbrev pub weights_at : List ℕ → ℕ → ℕ → List ℕ → Told (List ℕ × List ℕ)

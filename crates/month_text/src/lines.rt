@@ -1,21 +1,13 @@
 //! Lines of a text: a key, `=`, numbers between commas, and byte 10.
-ghost use Rattle.std.specs.Prelude.{◌≡◌, [], ◌∷◌};
+ghost use Rattle.std.specs.Prelude.{◌≡◌};
 ghost use Rattle.std.specs.Option.{option_map};
 ghost use Rattle.month_text.specs.Lines.{past, fields_at, line_at};
 
 use crate::numbers::integer;
 
-/// The text after the byte `b`, where it is the first.
-fn after_byte(b: u8, s: &[u8]) -> Option<&[u8]>
-    ensures { option_map (λ t. t.now) result ≡ past (b ∷ []) s.now }
-{
-    match s {
-        [first, rest @ ..] if *first == b => Some(rest),
-        _ => None,
-    }
-}
-
 /// The text after `word`, where it begins with it.
+// `strip_prefix` by slice patterns, in which this reader takes each line apart.
+#[tactic(auto, using(crate::proofs::Steps::word_steps))]
 pub(crate) fn after_word<'a>(word: &[u8], s: &'a [u8]) -> Option<&'a [u8]>
     ensures { option_map (λ t. t.now) result ≡ past word.now s.now }
 {
@@ -34,11 +26,11 @@ fn fields<'a, const K: usize>(signs: bool, s: &'a [u8]) -> Option<([i64; K], &'a
 {
     let mut numbers = [0i64; K];
     let mut rest = s;
-    for i in 0..K {
-        let (number, after) = integer(signs, rest)?;
+    for (i, number) in numbers.iter_mut().enumerate() {
+        let (read, after) = integer(signs, rest)?;
         let stop = if i + 1 == K { b'\n' } else { b',' };
-        rest = after_byte(stop, after)?;
-        numbers[i] = number;
+        rest = after_word(&[stop], after)?;
+        *number = read;
     }
     Some((numbers, rest))
 }
@@ -52,6 +44,6 @@ pub(crate) fn line<'a, const K: usize>(
     ensures { option_map (λ p. (p.0, p.1.now)) result ≡ line_at key.now signs K s.now }
 {
     let s = after_word(key, s)?;
-    let s = after_byte(b'=', s)?;
-    fields::<K>(signs, s)
+    let s = after_word(b"=", s)?;
+    fields(signs, s)
 }

@@ -5,6 +5,7 @@ ghost use Rattle.month_text.specs.Spelling.{ReadAsSpelled};
 ghost use Rattle.month_text.specs.Numbers.{digits_on, number_at, integer_at};
 
 /// More digits after `n`. A digit may follow only 1 to 10^10 - 1: so there are no leading zeros and no twelfth digit.
+#[tactic(auto, using(crate::proofs::Steps::digit_steps))]
 fn digits_on(n: u64, s: &[u8]) -> Option<(u64, &[u8])>
     requires { n < 100000000000 }
     ensures value { option_map (λ p. (p.0, p.1.now)) result ≡ digits_on n s.now }
@@ -22,6 +23,7 @@ fn digits_on(n: u64, s: &[u8]) -> Option<(u64, &[u8])>
 }
 
 /// The number at the front, and the text after it.
+#[tactic(auto, using(crate::proofs::Steps::digit_steps))]
 pub(crate) fn number(s: &[u8]) -> Option<(u64, &[u8])>
     ensures value { option_map (λ p. (p.0, p.1.now)) result ≡ number_at s.now }
     ensures small { IfSome result (λ p. p.0 < 100000000000) }
@@ -34,6 +36,7 @@ pub(crate) fn number(s: &[u8]) -> Option<(u64, &[u8])>
 }
 
 /// The number at the front, which may have a sign where `signs` says so, and the text after it.
+#[tactic(auto, using(crate::proofs::Steps::sign_steps))]
 pub(crate) fn integer(signs: bool, s: &[u8]) -> Option<(i64, &[u8])>
     ensures { option_map (λ p. (p.0, p.1.now)) result ≡ integer_at signs s.now }
 {

@@ -1,22 +1,38 @@
 //! Lines whose numbers lie in their ranges.
 ghost use Rattle.std.specs.Prelude.{◌≡◌, ◌^◌, ◌<◌, ◌≤◌, IfSome, IfOk, sum};
+ghost use Rattle.std.specs.List.{list_all};
 ghost use Rattle.refusal.specs.Answers.{answer_by};
 ghost use Rattle.month_text.specs.Accepted.{EachTo, EachWithin};
-ghost use Rattle.month_text.specs.Ranges.{natural_in, amount_in, each, all, number_at_line, row_at, amounts_at, weights_at};
+ghost use Rattle.month_text.specs.Ranges.{natural_in, amount_in, each, number_at_line, row_at, amounts_at, weights_at};
 
 use crate::lines::line;
 use cents::weights::adds_up;
 use refusal::{Fault, Layer, Refusal};
+
+// `low` and `high` are two numbers: a `RangeInclusive` also says whether it is used up, which each clause would rule out.
+// `place` and `s` are two as well: the places are literals in the reader, and a cursor would have to count up to them.
+
+/// The fault of a line that does not have the form that it must have.
+pub(crate) fn off_layout(place: u32) -> Fault
+    ensures { result ≡ record { refusal = Refusal.Layout; layer = Layer.Text; place = place } }
+{
+    Layer::Text.refuses_at(Refusal::Layout, place)
+}
+
+/// The fault of a line that has a number outside its range.
+pub(crate) fn out_of_range(place: u32) -> Fault
+    ensures { result ≡ record { refusal = Refusal.Range; layer = Layer.Text; place = place } }
+{
+    Layer::Text.refuses_at(Refusal::Range, place)
+}
 
 /// The number without a sign, where it lies from `low` to `high`.
 fn natural(x: i64, low: u32, high: u32) -> Option<u32>
     ensures value { result ≡ natural_in low high x }
     ensures range { IfSome result (λ n. (low ≤ n) × (n ≤ high)) }
 {
-    if x < i64::from(low) || x > i64::from(high) {
-        return None;
-    }
-    Some(x as u32)
+    let n = u32::try_from(x).ok()?;
+    (low..=high).contains(&n).then_some(n)
 }
 
 /// All numbers without signs, where each lies from `low` to `high`.
@@ -25,50 +41,17 @@ fn naturals<const K: usize>(xs: [i64; K], low: u32, high: u32) -> Option<[u32; K
     ensures range { IfSome result (λ ns. EachTo high ns) }
 {
     let mut numbers = [0u32; K];
-    for i in 0..K {
-        let number = natural(xs[i], low, high)?;
-        numbers[i] = number;
+    for (i, x) in xs.iter().enumerate() {
+        numbers[i] = natural(*x, low, high)?;
     }
     Some(numbers)
 }
 
-/// Whether an amount lies within ±`most`.
-fn bounded(x: i64, most: u64) -> bool
-    ensures { result ≡ amount_in most x }
-{
-    x.unsigned_abs() <= most
-}
-
 /// Whether each amount lies within ±`most`.
 fn all_bounded<const K: usize>(xs: [i64; K], most: u64) -> bool
-    ensures { result ≡ all (amount_in most) xs.entry }
+    ensures { result ≡ list_all (amount_in most) xs.entry }
 {
-    for x in &xs {
-        if !bounded(*x, most) {
-            return false;
-        }
-    }
-    true
-}
-
-/// A line of one number from `low` to `high`, and the text after it.
-pub(crate) fn number_line<'a>(
-    key: &[u8],
-    low: u32,
-    high: u32,
-    place: u32,
-    s: &'a [u8],
-) -> Result<(u32, &'a [u8]), Fault>
-    ensures value { answer_by (λ p. (p.0, p.1.now)) result ≡ number_at_line key.now low high place s.now }
-    ensures range { IfOk result (λ p. (low ≤ p.0) × (p.0 ≤ high)) }
-{
-    let Some(got) = line::<1>(key, false, s) else {
-        return Err(Layer::Text.refuses_at(Refusal::Layout, place));
-    };
-    let Some(number) = natural(got.0[0], low, high) else {
-        return Err(Layer::Text.refuses_at(Refusal::Range, place));
-    };
-    Ok((number, got.1))
+    xs.iter().all(|x| x.unsigned_abs() <= most)
 }
 
 /// A line of `K` numbers from `low` to `high`, and the text after it.
@@ -83,14 +66,29 @@ pub(crate) fn row<'a, const K: usize>(
     ensures value { answer_by (λ p. (p.0, p.1.now)) result ≡ row_at key.now K low high place s.now }
     ensures range { IfOk result (λ p. EachTo high p.0) }
 {
-    let Some(got) = line::<K>(key, false, s) else {
-        return Err(Layer::Text.refuses_at(Refusal::Layout, place));
+    let Some(read) = line::<K>(key, false, s) else {
+        return Err(off_layout(place));
     };
-    let read = got.0;
-    let Some(numbers) = naturals::<K>(read, low, high) else {
-        return Err(Layer::Text.refuses_at(Refusal::Range, place));
+    let (read, rest) = read;
+    let Some(numbers) = naturals(read, low, high) else {
+        return Err(out_of_range(place));
     };
-    Ok((numbers, got.1))
+    Ok((numbers, rest))
+}
+
+/// A line of one number from `low` to `high`, and the text after it.
+pub(crate) fn number_line<'a>(
+    key: &[u8],
+    low: u32,
+    high: u32,
+    place: u32,
+    s: &'a [u8],
+) -> Result<(u32, &'a [u8]), Fault>
+    ensures value { answer_by (λ p. (p.0, p.1.now)) result ≡ number_at_line key.now low high place s.now }
+    ensures range { IfOk result (λ p. (low ≤ p.0) × (p.0 ≤ high)) }
+{
+    let ([number], rest) = row::<1>(key, low, high, place, s)?;
+    Ok((number, rest))
 }
 
 /// A line of `K` signed amounts within ±`most`, and the text after it.
@@ -100,18 +98,17 @@ pub(crate) fn amounts<'a, const K: usize>(
     place: u32,
     s: &'a [u8],
 ) -> Result<([i64; K], &'a [u8]), Fault>
-    requires { K < 2 ^ 16 }
     ensures value { answer_by (λ p. (p.0, p.1.now)) result ≡ amounts_at key.now K most place s.now }
     ensures range { IfOk result (λ p. EachWithin most p.0) }
 {
-    let Some(got) = line::<K>(key, true, s) else {
-        return Err(Layer::Text.refuses_at(Refusal::Layout, place));
+    let Some(read) = line::<K>(key, true, s) else {
+        return Err(off_layout(place));
     };
-    let amounts = got.0;
-    if !all_bounded::<K>(amounts, most) {
-        return Err(Layer::Text.refuses_at(Refusal::Range, place));
+    let (amounts, rest) = read;
+    if !all_bounded(amounts, most) {
+        return Err(out_of_range(place));
     }
-    Ok((amounts, got.1))
+    Ok((amounts, rest))
 }
 
 /// A line of `K` thousandths that add up to 1,000, and the text after it.
@@ -125,13 +122,13 @@ pub(crate) fn weights<'a, const K: usize>(
     ensures range { IfOk result (λ p. EachTo 1000 p.0) }
     ensures whole { IfOk result (λ p. sum p.0 ≡ 1000) }
 {
-    let got = match row::<K>(key, 0, 1000, place, s) {
-        Ok(got) => got,
+    // `?` at a row of `K` numbers beside a text is not covered yet, so the `match` is written out.
+    let (weights, rest) = match row::<K>(key, 0, 1000, place, s) {
+        Ok(read) => read,
         Err(fault) => return Err(fault),
     };
-    let weights = got.0;
-    if !adds_up::<K>(weights, 1000) {
+    if !adds_up(weights, 1000) {
         return Err(Layer::Sheet.refuses_at(Refusal::Weights, place));
     }
-    Ok((weights, got.1))
+    Ok((weights, rest))
 }

@@ -1,15 +1,7 @@
 use Rattle.std.proofs.Common.{sym, arith, ltb-false, ltb-true}
-use Rattle.month_text.proofs.Steps.{past_none, past_step, past_end, past_other}
+use Rattle.month_text.proofs.Steps.{past_end, past_other}
 use Rattle.month_text.proofs.lines.+after_word.Goals as goal
 use Rattle.month_text.proofs.lines.+after_word.Goals.{in_default-via-then-this-lt1, in_default-via-in-len1-up-len1-up+else-letter-first}
-
-pub returns-in-empty-default : goal.returns-in-empty-default
-returns-in-empty-default t c = sym (past_none c.args.word.now c.args.s.now (omega (arith, ltb-true)))
-
-pub returns-in-len1-up-len1-up : goal.returns-in-len1-up-len1-up
-returns-in-len1-up-len1-up t c =
-    let d = past_step c.args.word.now c.args.s.now (omega (arith, ltb-false)) (omega (arith, ltb-false)) (omega arith) in
-    cc
 
 pub returns-in_default : goal.returns-in_default
 returns-in_default t c =

@@ -6,5 +6,5 @@ use Rattle.month_text.proofs.lines.fields.Given as goal
 -- the numbers so far, and then what the rest of the line says
 abbrev pub invariant-loop-i : goal.invariant-loop-i
 invariant-loop-i g l =
-    (length l.numbers ≡ g.row.K)
-    × (fields_at l.signs g.row.K l.s ≡ onto (take l.i l.numbers) (fields_at l.signs (g.row.K - l.i) l.rest))
+    (length l.number-items ≡ g.row.K)
+    × (fields_at l.signs g.row.K l.s ≡ onto (take l.i l.number-items) (fields_at l.signs (g.row.K - l.i) l.rest))

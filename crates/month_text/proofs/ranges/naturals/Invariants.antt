@@ -7,4 +7,4 @@ use Rattle.month_text.proofs.ranges.naturals.Given as goal
 abbrev pub invariant-loop-i : goal.invariant-loop-i
 invariant-loop-i g l =
     (length l.numbers ≡ g.row.K)
-    × (each (natural_in l.low l.high) l.xs ≡ before (take l.i l.numbers) (each (natural_in l.low l.high) (drop l.i l.xs)))
+    × (each (natural_in l.low l.high) l.x-items ≡ before (take l.i l.numbers) (each (natural_in l.low l.high) (drop l.i l.x-items)))
