@@ -1,6 +1,6 @@
 -- Lists made member by member.
-use Rattle.std.proofs.Common.{◌≡◌, ℕ, zero, suc, ◌+◌, ◌<◌, ◌≤◌, Bool, true, false, cond, leb, List, [], ◌∷◌, ◌++◌, length, get_or, take, drop, set, ℤ, Option, sym, refl, ap, ◌∙◌, arith}
-use Rattle.std.proofs.lemmas.List.{take_more_set, take_all, drop_more, drop_all, append_assoc, append-nil, take-map, get_or-take, length-take-le}
+use Rattle.std.proofs.Common.{◌≡◌, ℕ, zero, suc, ◌+◌, ◌<◌, ◌≤◌, Bool, true, false, cond, leb, List, [], ◌∷◌, length, get_or, take, drop, ℤ, Option, sym, refl, ap, ◌∙◌, arith}
+use Rattle.std.proofs.lemmas.List.{drop_more, take-map, get_or-take, length-take-le}
 use Rattle.std.proofs.lemmas.Bool.{cond-true, le-leb}
 use Rattle.refusal.specs.Answers.{Told, done, refused}
 use Rattle.refusal.proofs.Apart.{refused_done}
@@ -14,8 +14,6 @@ use Rattle.bottom_books.proofs.Small.{parted}
 use Rattle.statement.specs.Readings.{book_row, book_rows}
 use Rattle.month_text.specs.declared.month.Member.{Member}
 use Rattle.month_text.specs.declared.month.Month.{Month}
-use Rattle.charges_text.specs.declared.charges.MemberCharge.{MemberCharge}
-use Rattle.statement.specs.Charges.{member_charges}
 use Rattle.month_bill.specs.Members.{facts_of_all, units_rule, month_units, member_rows}
 
 -- a month's units are told by the table of its facts
@@ -67,14 +65,3 @@ pub rows_take : (statement : List ℤ) (i n : ℕ) (members : List Member) → t
 rows_take statement i zero members = refl
 rows_take statement i (suc n) [] = refl
 rows_take statement i (suc n) (m ∷ members) = rw (rows_take statement (i + 1) n members)
-
-module _ (statement : List ℤ) (members : List Member) (i : ℕ) (out all : List MemberCharge) (inv : take i out ++ member_rows statement i (drop i members) ≡ all) where
-  pub rows_more : (d : Member) (x : MemberCharge) → i < length members → i < length out → x ≡ record { account = (get_or members i d).account; charges = member_charges statement i }
-      → take (i + 1) (set out i x) ++ member_rows statement (i + 1) (drop (i + 1) members) ≡ all
-  rows_more d x l m e =
-      let c = ap (member_rows statement i) (drop_more members i d l) in
-      rw (take_more_set out i x m, append_assoc, e) (ap (λ (rows : List MemberCharge). take i out ++ rows) (sym c) ∙ inv)
-
-  pub rows_end : length members ≤ i → length out ≤ i → out ≡ all
-  rows_end l m =
-      sym (take_all i out m) ∙ sym (append-nil (take i out)) ∙ ap (λ (rows : List MemberCharge). take i out ++ rows) (ap (member_rows statement i) (sym (drop_all i members l))) ∙ inv
