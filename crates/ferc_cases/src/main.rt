@@ -39,8 +39,7 @@ fn hours(first: u32, second: u32) -> TableBook {
 fn month(rt: &HostRuntime, year: &mut FercYear, first: u32, second: u32) -> io::Result<()> {
     let mut cells = [0i64; 2];
     let answer = year.bill(&hours(first, second), &mut cells);
-    let a = cells[0];
-    let b = cells[1];
+    let [a, b] = cells;
     println!(rt; "{first} and {second} MWh: {a} and {b}")?;
     told(rt, "month", answer)
 }

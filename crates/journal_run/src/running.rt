@@ -17,7 +17,7 @@ use sharing::rule::Rule;
 use std::alloc::Global;
 
 /// What a run leaves: each order's outcome and its statement of `width` cells, and what the ledger
-/// holds.
+/// holds. A run fills lent slices, so outcomes and statements are two lists.
 #[derive(Drop)]
 pub(crate) struct Ran {
     pub width: usize,
