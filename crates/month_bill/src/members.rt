@@ -35,8 +35,7 @@ pub fn month_book(month: &Month) -> Result<FactBook, Fault>
 
 /// The members' units of the seven kinds, by the fact book of the month; refused where it is.
 pub(crate) fn member_units(month: &Month) -> Result<[[u32; 7]; 32], Fault>
-    ensures told { answer_by (λ units. take month.now.count units) result ≡ month_units month.now }
-    ensures few { OnOk result (month.now.count ≤ 32) }
+    ensures { answer_by (λ units. take month.now.count units) result ≡ month_units month.now }
 {
     let book = month_book(month)?;
     let mut units = [[0u32; 7]; 32];

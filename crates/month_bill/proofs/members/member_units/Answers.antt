@@ -6,8 +6,8 @@ use Rattle.statement.specs.Readings.{book_rows}
 use Rattle.month_bill.proofs.Listed.{units_read}
 use Rattle.month_bill.proofs.members.member_units.Goals as goal
 
-pub returns-clause-told : goal.returns-clause-told
-returns-clause-told c =
+pub returns : goal.returns
+returns c =
     let m = c.args.month.now in
     let table = c.in_ok-book.book.units in
     let made = c.in_ok-book.ensures.made in
