@@ -1,8 +1,8 @@
 -- A FERC year's numbers stay in range, and its charges are written one after the other.
-use Rattle.std.proofs.Common.{◌≡◌, ℕ, zero, suc, ◌+◌, ◌-◌, ◌*◌, ◌<◌, ◌≤◌, Bool, true, cond, eqb, ltb, leb, List, [], ◌++◌, length, take, set, ℤ, pos, ◌*ℤ◌, nat_abs, sym, ap, ◌∙◌, mul-le-mul, arith}
+use Rattle.std.proofs.Common.{◌≡◌, ℕ, zero, suc, ◌+◌, ◌-◌, ◌*◌, ◌<◌, ◌≤◌, Bool, true, cond, leb, List, ◌++◌, length, take, set, ℤ, pos, ◌*ℤ◌, nat_abs, sym, ap, ◌∙◌, mul-le-mul, arith}
 use borrow.Author.Differences.{ints}
-use Rattle.std.proofs.lemmas.List.{take_more_set, take_all, append_assoc, append-nil}
-use Rattle.std.proofs.lemmas.Bool.{and_parts, leb-true, lt-ltb, eq-eqb, cond-true}
+use Rattle.std.proofs.lemmas.List.{take_more_set, append_assoc}
+use Rattle.std.proofs.lemmas.Bool.{and_parts, leb-true, lt-ltb}
 use Rattle.refusal.specs.Answers.{done, refused, next}
 use Rattle.refusal.specs.declared.Layer.TheVariants as layer
 use Rattle.book.specs.Asking.{ask_rule}
@@ -10,7 +10,7 @@ use Rattle.cents.specs.Cutting.{sum_z}
 use Rattle.cents.proofs.Magnitudes.{times_abs, inside_abs}
 use Rattle.cents.proofs.Quotients.{nearest_inside}
 use Rattle.ferc.specs.Rates.{cost_lawful}
-use Rattle.ferc.specs.Years.{charge_of, charges, month_rule}
+use Rattle.ferc.specs.Years.{charge_of, charges}
 
 pub cost_each : (a b c : ℤ) → cost_lawful a b c ≡ true → (nat_abs a ≤ 40000000000) × (nat_abs b ≤ 40000000000) × (nat_abs c ≤ 40000000000)
 cost_each a b c h =
@@ -25,9 +25,6 @@ pub charge_small : (rate : ℤ) (u : ℕ) → nat_abs rate ≤ 1000000 → u ≤
 charge_small rate u h k =
     let i = inside_abs (rate *ℤ pos u) (charge_of rate u) (nearest_inside (rate *ℤ pos u) 100 (omega arith)) in
     omega (arith, i, product_small rate u h k)
-
-pub month_done : (months cells count : ℕ) → cells ≡ count → months < 12 → done tt ≡ month_rule months cells count
-month_done months cells count e h = sym (cond-true (eqb cells count) _ _ (eq-eqb cells count e) ∙ cond-true (ltb months 12) _ _ (lt-ltb months 12 h))
 
 -- what a member of the book is told are its units
 pub ask_is : (count held member u : ℕ) → member < count → done u ≡ ask_rule count held 1 member → u ≡ held
@@ -47,11 +44,6 @@ module _ (rate : ℤ) (held : ℕ → ℕ → ℕ) where
   charges_more count i out x h l e inv =
       let m : charges rate held i (count - i) ≡ charges rate held i (suc (count - (i + 1))) = ap (charges rate held i) {x = count - i} {y = suc (count - (i + 1))} (omega arith) in
       rw (take_more_set out i x l, append_assoc, e) (ap (λ (zs : List ℤ). take i out ++ zs) (sym m) ∙ inv)
-
-  pub charges_end : (count i : ℕ) (out : List ℤ) → count ≤ i → length out ≤ i → take i out ++ charges rate held i (count - i) ≡ charges rate held 0 count → out ≡ charges rate held 0 count
-  charges_end count i out h l inv =
-      let m : charges rate held i (count - i) ≡ [] = ap (charges rate held i) {x = count - i} {y = 0} (omega arith) in
-      rw (take_all i out l, m, append-nil) at inv
 
   -- no month of at most 200 members is beyond this
   pub month_small : nat_abs rate ≤ 1000000 → ((kind member : ℕ) → held kind member ≤ 2000000000) → (count : ℕ) → count ≤ 200 → (cells : List ℤ) → cells ≡ charges rate held 0 count → nat_abs (sum_z cells) ≤ 400000000000000000

@@ -1,5 +1,5 @@
 //! The rate of a FERC year, in hundredths of a cent for a megawatt-hour.
-ghost use Rattle.std.specs.Prelude.{◌≡◌, ◌≤◌, true, ◌||◌, ◌==◌, nat_lt, unsigned_abs};
+ghost use Rattle.std.specs.Prelude.{◌≡◌, ◌≤◌, true, unsigned_abs};
 ghost use Rattle.refusal.specs.Answers.{answer};
 ghost use Rattle.ferc.specs.Rates.{cost_lawful, year_cost, rate_of, rate_rule};
 
@@ -15,31 +15,17 @@ const MOST_VOLUME: u64 = 20_000_000_000;
 /// No rate is beyond this, on either side of 0.
 const MOST_RATE: u64 = 1_000_000;
 
-fn costs_lawful(estimate: i64, paid: i64, recovered: i64) -> bool
-    ensures { result ≡ cost_lawful estimate paid recovered }
-{
-    estimate.unsigned_abs() <= MOST_CENTS
-        && paid.unsigned_abs() <= MOST_CENTS
-        && recovered.unsigned_abs() <= MOST_CENTS
+/// The figures of a year: this year's estimated charge, the charge paid for the prior year and its
+/// recovery, in cents, and the volume in megawatt-hours.
+#[derive(Clone, Copy)]
+pub struct YearFigures {
+    pub estimate: i64,
+    pub paid: i64,
+    pub recovered: i64,
+    pub volume: u64,
 }
 
-/// Whether a year has no volume, or its rate is out of range.
-fn unusable(volume: u64, rate: i64) -> bool
-    ensures { result ≡ (volume == 0 || nat_lt 1000000 (unsigned_abs rate)) }
-{
-    volume == 0 || rate.unsigned_abs() > MOST_RATE
-}
-
-/// A year's cost: this year's estimate, and what was paid for the prior year less its recovery.
-fn year_cost(estimate: i64, paid: i64, recovered: i64) -> i64
-    requires { cost_lawful estimate paid recovered ≡ true }
-    ensures value { result ≡ year_cost estimate paid recovered }
-    ensures small { unsigned_abs result ≤ 120000000000 }
-{
-    estimate + paid - recovered
-}
-
-/// The rate of a year's cost.
+/// The rate of a cost over a volume.
 fn rate_of(cost: i64, volume: u64) -> i64
     requires { unsigned_abs cost ≤ 120000000000 }
     ensures { result ≡ rate_of cost volume }
@@ -47,20 +33,43 @@ fn rate_of(cost: i64, volume: u64) -> i64
     nearest(100 * cost, volume)
 }
 
-/// The rate of a year; refused where a number is out of range, there is no volume, or the rate
-/// itself is out of range.
-pub fn ferc_rate(estimate: i64, paid: i64, recovered: i64, volume: u64) -> Result<i64, Fault>
-    ensures { answer result ≡ rate_rule estimate paid recovered volume }
-{
-    if !costs_lawful(estimate, paid, recovered) {
-        return Err(Layer::Ferc.refuses(Refusal::Range));
+impl YearFigures {
+    /// Whether each of the three charges is in range.
+    fn costs_lawful(&self) -> bool
+        ensures { result ≡ cost_lawful self.now.estimate self.now.paid self.now.recovered }
+    {
+        [self.estimate, self.paid, self.recovered]
+            .iter()
+            .all(|cents| cents.unsigned_abs() <= MOST_CENTS)
     }
-    if volume > MOST_VOLUME {
-        return Err(Layer::Ferc.refuses(Refusal::Range));
+
+    /// The cost: this year's estimate, and what was paid for the prior year less its recovery.
+    fn cost(&self) -> i64
+        requires { cost_lawful self.now.estimate self.now.paid self.now.recovered ≡ true }
+        ensures value { result ≡ year_cost self.now.estimate self.now.paid self.now.recovered }
+        ensures small { unsigned_abs result ≤ 120000000000 }
+    {
+        self.estimate + self.paid - self.recovered
     }
-    let rate = rate_of(year_cost(estimate, paid, recovered), volume);
-    if unusable(volume, rate) {
-        return Err(Layer::Ferc.refuses(Refusal::Rate));
+
+    /// The rate; refused where a figure is out of range, there is no volume, or the rate itself is
+    /// out of range.
+    pub fn rate(&self) -> Result<i64, Fault>
+        ensures { answer result ≡ rate_rule self.now.estimate self.now.paid self.now.recovered self.now.volume }
+    {
+        if !self.costs_lawful() {
+            return Err(Layer::Ferc.refuses(Refusal::Range));
+        }
+        if self.volume > MOST_VOLUME {
+            return Err(Layer::Ferc.refuses(Refusal::Range));
+        }
+        if self.volume == 0 {
+            return Err(Layer::Ferc.refuses(Refusal::Rate));
+        }
+        let rate = rate_of(self.cost(), self.volume);
+        if rate.unsigned_abs() > MOST_RATE {
+            return Err(Layer::Ferc.refuses(Refusal::Rate));
+        }
+        Ok(rate)
     }
-    Ok(rate)
 }

@@ -1,7 +1,7 @@
 //! A FERC year: its rate, how many of its months are billed, and the cents billed.
 mod calls;
 
-ghost use Rattle.std.specs.Prelude.{◌*◌, ◌≤◌, unsigned_abs};
+ghost use Rattle.std.specs.Prelude.{◌≡◌, ◌*◌, ◌≤◌, unsigned_abs};
 
 /// A year. It bills at most twelve months.
 #[derive(Clone, Copy)]
@@ -12,4 +12,27 @@ pub struct FercYear {
     ghost rated: { unsigned_abs rate ≤ 1000000 },
     ghost few: { months ≤ 12 },
     ghost small: { unsigned_abs billed ≤ 400000000000000000 * months },
+}
+
+impl FercYear {
+    /// The year's rate.
+    pub fn rate(&self) -> i64
+        ensures { result ≡ self.now.rate }
+    {
+        self.rate
+    }
+
+    /// How many months are billed.
+    pub fn months(&self) -> u32
+        ensures { result ≡ self.now.months }
+    {
+        self.months
+    }
+
+    /// The cents billed so far.
+    pub fn billed(&self) -> i64
+        ensures { result ≡ self.now.billed }
+    {
+        self.billed
+    }
 }

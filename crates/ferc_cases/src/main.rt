@@ -2,11 +2,13 @@
 #![tactic(auto)]
 
 use bottom_books::table_book::TableBook;
+use ferc::rate::YearFigures;
 use ferc::year::FercYear;
 use refusal::Fault;
 use std::io;
 
-/// Prints whether a call was accepted.
+/// Prints whether a call was accepted. The test program of the books has this function too: a crate
+/// for these lines alone would be longer than both.
 fn told(rt: &HostRuntime, name: &str, answer: Result<(), Fault>) -> io::Result<()> {
     match answer {
         Ok(()) => println!(rt; "{name}: accepted"),
@@ -37,31 +39,45 @@ fn hours(first: u32, second: u32) -> TableBook {
 fn month(rt: &HostRuntime, year: &mut FercYear, first: u32, second: u32) -> io::Result<()> {
     let mut cells = [0i64; 2];
     let answer = year.bill(&hours(first, second), &mut cells);
-    let a = cells[0];
-    let b = cells[1];
+    let [a, b] = cells;
     println!(rt; "{first} and {second} MWh: {a} and {b}")?;
     told(rt, "month", answer)
 }
 
+/// Makes a year of these figures and prints whether it was accepted.
+fn made(
+    rt: &HostRuntime,
+    name: &str,
+    year: &mut FercYear,
+    [estimate, paid, recovered]: [i64; 3],
+    volume: u64,
+) -> io::Result<()> {
+    let figures = YearFigures {
+        estimate,
+        paid,
+        recovered,
+        volume,
+    };
+    told(rt, name, year.make(figures))
+}
+
 /// The ranges, the volume and the rate; refused, the year is as it was.
 fn making(rt: &HostRuntime, year: &mut FercYear) -> io::Result<()> {
-    told(
+    made(
         rt,
         "the most cents",
-        year.make(40_000_000_000, 0, 0, 4_000_000),
+        year,
+        [40_000_000_000, 0, 0],
+        4_000_000,
     )?;
-    told(
-        rt,
-        "a cent more",
-        year.make(40_000_000_001, 0, 0, 4_000_000),
-    )?;
-    told(rt, "the most volume", year.make(0, 0, -1, 20_000_000_000))?;
-    told(rt, "more volume", year.make(0, 0, -1, 20_000_000_001))?;
-    told(rt, "no volume", year.make(1, 1, 1, 0))?;
-    told(rt, "the highest rate", year.make(10_000, 0, 0, 1))?;
-    told(rt, "a higher rate", year.make(10_001, 0, 0, 1))?;
-    told(rt, "the lowest rate", year.make(0, 0, 10_000, 1))?;
-    told(rt, "a lower rate", year.make(0, 0, 10_001, 1))?;
+    made(rt, "a cent more", year, [40_000_000_001, 0, 0], 4_000_000)?;
+    made(rt, "the most volume", year, [0, 0, -1], 20_000_000_000)?;
+    made(rt, "more volume", year, [0, 0, -1], 20_000_000_001)?;
+    made(rt, "no volume", year, [1, 1, 1], 0)?;
+    made(rt, "the highest rate", year, [10_000, 0, 0], 1)?;
+    made(rt, "a higher rate", year, [10_001, 0, 0], 1)?;
+    made(rt, "the lowest rate", year, [0, 0, 10_000], 1)?;
+    made(rt, "a lower rate", year, [0, 0, 10_001], 1)?;
     show(rt, year)
 }
 
@@ -73,8 +89,13 @@ fn again(year: &mut FercYear) {
 
 /// Twelve months and the thirteenth.
 fn twelve(rt: &HostRuntime, year: &mut FercYear) -> io::Result<()> {
-    let made = year.make(9_000_000, 8_800_000, 8_900_000, 1_000_000);
-    told(rt, "the worked year", made)?;
+    made(
+        rt,
+        "the worked year",
+        year,
+        [9_000_000, 8_800_000, 8_900_000],
+        1_000_000,
+    )?;
     show(rt, year)?;
     month(rt, year, 150, 0)?;
     let mut cells = [5i64; 2];
@@ -92,9 +113,9 @@ fn main(rt: HostRuntime) -> io::Result<()> {
     let mut year = FercYear::blank();
     making(&rt, &mut year)?;
     twelve(&rt, &mut year)?;
-    told(&rt, "a credit", year.make(-9_000_000, 0, 0, 1_000_000))?;
+    made(&rt, "a credit", &mut year, [-9_000_000, 0, 0], 1_000_000)?;
     month(&rt, &mut year, 150, 2_000_000_000)?;
-    told(&rt, "a rate of -1", year.make(-1, 0, 0, 100))?;
+    made(&rt, "a rate of -1", &mut year, [-1, 0, 0], 100)?;
     month(&rt, &mut year, 50, 51)?;
     show(&rt, &year)
 }

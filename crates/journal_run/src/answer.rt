@@ -1,5 +1,5 @@
 //! The text that answers a journal.
-use crate::orders::journal_orders;
+use crate::orders::{journal_orders, order_count};
 use crate::printing::order_text;
 use crate::running::{Ran, run_orders};
 use crate::sums::Sums;
@@ -8,20 +8,20 @@ use journal_text::entry::Entry;
 use journal_text::reader::read_journal;
 use journal_text::unread::Unread;
 use std::alloc::{AllocError, Global};
+use std::iter;
 
-/// What every order came to, and the sums; `entries` has the entry of each order.
+/// What every order of the entries came to, and the sums.
 fn ran_text(heap: Global, entries: &[Entry], ran: &Ran) -> Result<String, AllocError> {
     let mut text = String::new(heap);
-    let mut sums = Sums {
-        booked: 0,
-        billed: 0,
-    };
-    for i in 0..entries.len() {
-        if let Some((outcome, cells)) = ran.order(i) {
-            let part = order_text(heap, &entries[i], outcome, cells)?;
-            text.push_str(part.as_str())?;
-            sums.add(&entries[i], outcome, cells);
-        }
+    let mut sums = Sums::default();
+    let ordered = entries
+        .iter()
+        .flat_map(|entry| iter::repeat_n(entry, order_count(entry)));
+    let statements = ran.statements.chunks_exact(ran.width);
+    for ((entry, outcome), cells) in ordered.zip(ran.outcomes.iter()).zip(statements) {
+        let part = order_text(heap, entry, *outcome, cells)?;
+        text.push_str(part.as_str())?;
+        sums.add(entry, *outcome, cells);
     }
     let last = sums.text(heap, ran.balances, ran.waiting)?;
     text.push_str(last.as_str())?;
@@ -33,8 +33,8 @@ fn run_journal(heap: Global, text: &[u8]) -> Result<String, Unread> {
     let entries = read_journal(heap, text)?;
     let first = &entries[0];
     let orders = journal_orders(heap, entries.as_slice())?;
-    let ran = run_orders(heap, &first.month, orders.list.as_slice())?;
-    Ok(ran_text(heap, orders.entries.as_slice(), &ran)?)
+    let ran = run_orders(heap, &first.month, orders.as_slice())?;
+    Ok(ran_text(heap, entries.as_slice(), &ran)?)
 }
 
 /// What a journal came to, or the line of its refusal.

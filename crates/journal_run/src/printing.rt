@@ -1,28 +1,13 @@
 //! What is printed for an order.
-use charges_text::charges::{ComponentCharge, MemberCharge};
+use charges_text::charges::ComponentCharge;
 use charges_text::printer::charges_text;
 use charges_text::refusals::refusal_text;
 use journal_text::entry::{Action, Entry};
+use month_bill::members::member_rows;
 use month_text::month::Month;
 use refusal::Fault;
 use runs::done::Done;
-use statement::month::member_charges;
 use std::alloc::{AllocError, Global};
-
-/// What each member pays by a bill's statement. Members from the month's count on are blank.
-fn member_rows(month: &Month, statement: &[i64]) -> [MemberCharge; 32] {
-    let blank = MemberCharge {
-        account: 0,
-        charges: [0; 13],
-    };
-    let mut rows = [blank; 32];
-    for i in 0..32 {
-        let account = month.members[i].account;
-        let charges = member_charges(statement, i);
-        rows[i] = MemberCharge { account, charges };
-    }
-    rows
-}
 
 /// A month's charges, as a month that is billed alone prints them.
 fn bill_text(
@@ -31,7 +16,7 @@ fn bill_text(
     components: [ComponentCharge; 13],
     statement: &[i64],
 ) -> Result<String, AllocError> {
-    let rows = member_rows(month, statement);
+    let rows = member_rows(month.members, statement);
     let members = rows.get(0..month.count).unwrap_or(&[]);
     charges_text(heap, month.month, components, members)
 }

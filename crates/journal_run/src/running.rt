@@ -1,8 +1,11 @@
 //! The run of a journal's orders on one ledger.
+ghost use Rattle.std.specs.Prelude.{◌<◌};
+
 use bottom_books::fact_book::FactBook;
 use journal_text::unread::Unread;
 use ledger::ledger::Ledger;
 use ledger::line::Line;
+use month_bill::costs::month_sheet;
 use month_text::month::{Month, RuleName};
 use refusal::{Fault, Layer, Refusal};
 use runs::done::Done;
@@ -12,34 +15,17 @@ use sharing::posted::Posted;
 use sharing::ratio::Ratio;
 use sharing::rule::Rule;
 use std::alloc::Global;
-use tariff::sheet::Sheet;
 
-/// What a run leaves: each order's outcome and statement, and what the ledger holds.
+/// What a run leaves: each order's outcome and its statement of `width` cells, and what the ledger
+/// holds. A run fills lent slices, so outcomes and statements are two lists.
 #[derive(Drop)]
 pub(crate) struct Ran {
-    pub members: usize,
+    pub width: usize,
     pub outcomes: Vec<Result<Done, Fault>>,
     pub statements: Vec<i64>,
     pub balances: [i64; 13],
     pub waiting: [i64; 6],
-}
-
-impl Ran {
-    /// The outcome of an order and its statement's cells.
-    pub(crate) fn order(&self, place: usize) -> Option<(Result<Done, Fault>, &[i64])> {
-        let width = self.members.checked_mul(13)?;
-        let start = place.checked_mul(width)?;
-        let end = start.checked_add(width)?;
-        let cells = self.statements.as_slice().get(start..end)?;
-        let outcome = self.outcomes.get(place)?;
-        Some((*outcome, cells))
-    }
-}
-
-fn month_sheet(month: &Month) -> Result<Sheet, Fault> {
-    let mut sheet = Sheet::even();
-    sheet.lay(month.sheet.division, month.sheet.management, month.sheet.split)?;
-    Ok(sheet)
+    ghost wide: { 0 < width },
 }
 
 /// Runs orders by a rule, on a ledger that the first month's terms open.
@@ -50,10 +36,11 @@ fn run_by<R: Rule + Copy + Drop>(
     orders: &[Order<FactBook>],
 ) -> Result<Ran, Unread> {
     let members = first.count;
-    if members > 32 {
+    if members == 0 || members > 32 {
         return Err(Unread::Line(Layer::Ledger.refuses(Refusal::Count)));
     }
-    let Some(cells) = orders.len().checked_mul(13 * members) else {
+    let width = 13 * members;
+    let Some(cells) = orders.len().checked_mul(width) else {
         return Err(Unread::Memory);
     };
     let sheet = month_sheet(first)?;
@@ -74,7 +61,7 @@ fn run_by<R: Rule + Copy + Drop>(
         outcomes.as_mut_slice(),
     )?;
     Ok(Ran {
-        members,
+        width,
         outcomes,
         statements,
         balances: ledger.balances(),
@@ -88,6 +75,7 @@ pub(crate) fn run_orders(
     first: &Month,
     orders: &[Order<FactBook>],
 ) -> Result<Ran, Unread> {
+    // Each arm is another type of rule, so no one value stands for both.
     match first.rule {
         RuleName::Posted => run_by(heap, Posted, first, orders),
         RuleName::Ratio => run_by(heap, Ratio, first, orders),

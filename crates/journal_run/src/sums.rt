@@ -6,7 +6,7 @@ use runs::done::Done;
 use std::alloc::{AllocError, Global};
 
 /// All cents booked, and all cents billed. A journal is too short for either to reach the end of its type.
-#[derive(Clone, Copy)]
+#[derive(Clone, Copy, Default)]
 pub(crate) struct Sums {
     pub booked: i128,
     pub billed: i128,

@@ -1,6 +1,7 @@
 -- Lists made member by member.
-use Rattle.std.proofs.Common.{◌≡◌, ℕ, zero, suc, ◌+◌, ◌<◌, ◌≤◌, Bool, true, false, cond, List, [], ◌∷◌, ◌++◌, length, get_or, take, drop, set, ℤ, Option, sym, refl, ap, ◌∙◌, arith}
-use Rattle.std.proofs.lemmas.List.{take_more_set, take_all, drop_more, drop_all, append_assoc, append-nil, map_more, get_or-take, length-take-le}
+use Rattle.std.proofs.Common.{◌≡◌, ℕ, zero, suc, ◌+◌, ◌<◌, ◌≤◌, Bool, true, false, cond, leb, List, [], ◌∷◌, length, get_or, take, drop, ℤ, Option, sym, refl, ap, ◌∙◌, arith}
+use Rattle.std.proofs.lemmas.List.{drop_more, take-map, get_or-take, length-take-le}
+use Rattle.std.proofs.lemmas.Bool.{cond-true, le-leb}
 use Rattle.refusal.specs.Answers.{Told, done, refused}
 use Rattle.refusal.proofs.Apart.{refused_done}
 use Rattle.cents.proofs.Tabulated.{tabulated}
@@ -12,17 +13,13 @@ use Rattle.bottom_books.specs.Tables.{cell, dated, peopled, rows_rule, table_rul
 use Rattle.bottom_books.proofs.Small.{parted}
 use Rattle.statement.specs.Readings.{book_row, book_rows}
 use Rattle.month_text.specs.declared.month.Member.{Member}
-use Rattle.charges_text.specs.declared.charges.MemberCharge.{MemberCharge}
-use Rattle.statement.specs.Charges.{member_charges}
-use Rattle.month_bill.specs.Members.{facts_of_all, member_rows}
+use Rattle.month_text.specs.declared.month.Month.{Month}
+use Rattle.month_bill.specs.Members.{facts_of_all, units_rule, month_units, member_rows}
 
-pub facts_more : (members : List Member) (out : List Facts) (d : Member) (i : ℕ) (x : Facts) → i < length members → i < length out → x ≡ (get_or members i d).facts
-    → take i out ≡ facts_of_all (take i members) → take (i + 1) (set out i x) ≡ facts_of_all (take (i + 1) members)
-facts_more members out d i x l m e h =
-    take_more_set out i x m ∙ rw (h, e) (sym (map_more (λ (w : Member). w.facts) members i d l))
-
-pub facts_end : (members : List Member) (out : List Facts) (i : ℕ) → length members ≤ i → length out ≤ i → take i out ≡ facts_of_all (take i members) → out ≡ facts_of_all members
-facts_end members out i l m h = sym (take_all i out m) ∙ h ∙ ap facts_of_all (take_all i members l)
+-- a month's units are told by the table of its facts
+pub units_told : (m : Month) (facts : List Facts) → m.count ≤ 32 → facts ≡ facts_of_all m.members → table_rule units_of m.month (take m.count facts) ≡ month_units m
+units_told m facts l e =
+    rw (e, take-map (λ (w : Member). w.facts) m.count m.members) (sym (cond-true (leb m.count 32) _ _ (le-leb m.count 32 l)))
 
 -- facts make rows of seven
 seven_rows : (facts : List Facts) (out : List (List ℕ)) → rows_rule units_of facts ≡ done out → (i : ℕ) → i < length out → length (get_or out i []) ≡ 7
@@ -50,20 +47,21 @@ passed_rows reads month rows out e = twice (dated month) (peopled (length rows))
     twice false b t v q = absurd (refused_done 2 layer.Book 0 v q)
 
 -- the units that are read off a fact book are those of its facts
-pub book_read : (month n : ℕ) (facts : List Facts) (rows : List (List ℕ)) → n ≤ length rows → table_rule units_of month facts ≡ done (take n rows) → table_rule units_of month facts ≡ done (book_rows (cell rows) 0 n)
+book_read : (month n : ℕ) (facts : List Facts) (rows : List (List ℕ)) → n ≤ length rows → table_rule units_of month facts ≡ done (take n rows) → table_rule units_of month facts ≡ done (book_rows (cell rows) 0 n)
 book_read month n facts rows l e =
     let p = passed_rows units_of month facts (take n rows) e in
     let s = seven_rows facts (take n rows) p in
     let f : (i : ℕ) → i < 0 + n → length (get_or rows i []) ≡ 7 = λ i q. ap length (sym (get_or-take n rows i [] (omega arith))) ∙ s i (omega (arith, length-take-le n rows l)) in
     e ∙ ap done (sym (rows_read rows 0 n (omega arith) f))
 
-module _ (statement : List ℤ) (members : List Member) (i : ℕ) (out all : List MemberCharge) (inv : take i out ++ member_rows statement i (drop i members) ≡ all) where
-  pub rows_more : (d : Member) (x : MemberCharge) → i < length members → i < length out → x ≡ record { account = (get_or members i d).account; charges = member_charges statement i }
-      → take (i + 1) (set out i x) ++ member_rows statement (i + 1) (drop (i + 1) members) ≡ all
-  rows_more d x l m e =
-      let c = ap (member_rows statement i) (drop_more members i d l) in
-      rw (take_more_set out i x m, append_assoc, e) (ap (λ (rows : List MemberCharge). take i out ++ rows) (sym c) ∙ inv)
+-- the same of a month's book
+pub units_read : (m : Month) (rows : List (List ℕ)) → m.count ≤ 32 → m.count ≤ length rows → done (take m.count rows) ≡ month_units m → done (book_rows (cell rows) 0 m.count) ≡ month_units m
+units_read m rows l n e =
+    let u = cond-true (leb m.count 32) (units_rule m.month (take m.count m.members)) (refused 4 layer.Ledger 0) (le-leb m.count 32 l) in
+    sym (book_read m.month m.count (facts_of_all (take m.count m.members)) rows n (sym u ∙ sym e)) ∙ sym u
 
-  pub rows_end : length members ≤ i → length out ≤ i → out ≡ all
-  rows_end l m =
-      sym (take_all i out m) ∙ sym (append-nil (take i out)) ∙ ap (λ (rows : List MemberCharge). take i out ++ rows) (ap (member_rows statement i) (sym (drop_all i members l))) ∙ inv
+-- the rows of the first members
+pub rows_take : (statement : List ℤ) (i n : ℕ) (members : List Member) → take n (member_rows statement i members) ≡ member_rows statement i (take n members)
+rows_take statement i zero members = refl
+rows_take statement i (suc n) [] = refl
+rows_take statement i (suc n) (m ∷ members) = rw (rows_take statement (i + 1) n members)

@@ -1,10 +1,12 @@
 -- The members of a month: their units, and what they pay.
-use Rattle.std.specs.Prelude.{ℕ, ◌+◌, List, [], ◌∷◌, map, ℤ}
-use Rattle.refusal.specs.Answers.{Told}
+use Rattle.std.specs.Prelude.{ℕ, ◌+◌, cond, List, [], ◌∷◌, map, take, ℤ, nat_le}
+use Rattle.refusal.specs.Answers.{Told, refused}
+use Rattle.refusal.specs.declared.Layer.TheVariants as layer
 use Rattle.bottom_books.specs.Tables.{table_rule}
 use Rattle.units.specs.declared.facts.Facts.{Facts}
 use Rattle.units.specs.Kinds.{units_of}
 use Rattle.month_text.specs.declared.month.Member.{Member}
+use Rattle.month_text.specs.declared.month.Month.{Month}
 use Rattle.charges_text.specs.declared.charges.MemberCharge.{MemberCharge}
 use Rattle.statement.specs.Charges.{member_charges}
 
@@ -14,6 +16,10 @@ facts_of_all members = map (λ m. m.facts) members
 -- the seven kinds of units, member by member, as the month's fact book means them
 abbrev pub units_rule : ℕ → List Member → Told (List (List ℕ))
 units_rule month members = table_rule units_of month (facts_of_all members)
+
+-- the same of a month's members; 4 where it has more members than places
+abbrev pub month_units : Month → Told (List (List ℕ))
+month_units m = cond (nat_le m.count 32) (units_rule m.month (take m.count m.members)) (refused 4 layer.Ledger 0)
 
 -- what the members from a place on pay by a statement
 abbrev pub member_rows : List ℤ → ℕ → List Member → List MemberCharge

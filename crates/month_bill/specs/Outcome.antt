@@ -11,7 +11,10 @@ abbrev pub said : Told (List ℕ) → List ℕ
 said (done bytes) = bytes
 said (refused number layer place) = refusal_line number layer place
 
--- the text is read, the month is billed, and its charges are printed; the first refusal is printed instead
+-- the text is read, the month is billed, and its charges are printed
+abbrev pub billed_text : List ℕ → Told (List ℕ)
+billed_text text = next (read_month text) (λ m. next (bill_month m) (λ b. done (printed m.month b.0 b.1)))
+
+-- the first refusal is printed instead
 abbrev pub answer_text : List ℕ → List ℕ
-answer_text text =
-    said (next (read_month text) (λ m. next (bill_month m) (λ b. done (printed m.month b.0 b.1))))
+answer_text text = said (billed_text text)

@@ -11,7 +11,7 @@ use tariff::heads::Heads;
 use tariff::sheet::Sheet;
 
 /// The month's sheet.
-fn month_sheet(month: &Month) -> Result<Sheet, Fault>
+pub fn month_sheet(month: &Month) -> Result<Sheet, Fault>
     ensures { answer_by (λ sheet. (sheet.division, sheet.management, sheet.split)) result ≡ month_sheet month.now }
 {
     let mut sheet = Sheet::even();

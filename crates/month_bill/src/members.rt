@@ -1,64 +1,61 @@
 //! The members' side of a month: their units, and what they pay.
-ghost use Rattle.std.specs.Prelude.{◌≡◌, length, take, IfOk, OnOk};
-ghost use Rattle.refusal.specs.Answers.{answer, answer_by, bare, done};
-ghost use Rattle.units.specs.Kinds.{units_of};
-ghost use Rattle.bottom_books.specs.Tables.{table_rule};
-ghost use Rattle.month_bill.specs.Members.{facts_of_all, units_rule, member_rows};
+ghost use Rattle.std.specs.Prelude.{◌≡◌, ◌≤◌, take, IfOk, OnOk};
+ghost use Rattle.refusal.specs.Answers.{answer_by};
+ghost use Rattle.month_bill.specs.Members.{facts_of_all, month_units, member_rows};
 
 use bottom_books::fact_book::FactBook;
 use charges_text::charges::MemberCharge;
-use month_text::month::Member;
-use refusal::Fault;
+use month_text::month::{Member, Month};
+use refusal::{Fault, Layer, Refusal};
 use statement::month::member_charges;
 use statement::reading::read_book;
 use units::facts::Facts;
 
-/// Copies the members' facts.
-fn copy_facts(members: &[Member], out: &mut [Facts])
-    requires { length out.old ≡ length members.now }
-    ensures { out.new ≡ facts_of_all members.now }
+/// The facts of all members.
+fn all_facts(members: [Member; 32]) -> [Facts; 32]
+    ensures { result ≡ facts_of_all members }
 {
-    for i in 0..members.len() {
-        let facts = members[i].facts;
-        out[i] = facts;
-    }
+    members.map(|member| member.facts)
 }
 
-/// The fact book of a month.
-fn month_book(month: u32, facts: &[Facts]) -> Result<FactBook, Fault>
-    ensures told { answer_by (λ book. take (length facts.now) book.units.rows) result ≡ table_rule units_of month facts.now }
-    ensures count { IfOk result (λ book. book.units.count ≡ length facts.now) }
+/// The fact book of a month; refused where the month has more members than places.
+pub fn month_book(month: &Month) -> Result<FactBook, Fault>
+    ensures told { answer_by (λ book. take month.now.count book.units.rows) result ≡ month_units month.now }
+    ensures made { IfOk result (λ book. (book.units.month ≡ month.now.month) × (book.units.count ≡ month.now.count)) }
+    ensures few { OnOk result (month.now.count ≤ 32) }
 {
+    if month.count > 32 {
+        return Err(Layer::Ledger.refuses(Refusal::Count));
+    }
+    let facts = all_facts(month.members);
     let mut book = FactBook::blank();
-    book.fill(month, facts)?;
+    book.fill(month.month, &facts[0..month.count])?;
     Ok(book)
 }
 
 /// The members' units of the seven kinds, by the fact book of the month; refused where it is.
-pub(crate) fn member_units(
-    month: u32,
-    members: &[Member],
-    facts: &mut [Facts],
-    out: &mut [[u32; 7]],
-) -> Result<(), Fault>
-    requires facts { length facts.old ≡ length members.now }
-    requires out { length out.old ≡ length members.now }
-    ensures told { answer result ≡ bare (units_rule month members.now) }
-    ensures rows { OnOk result (units_rule month members.now ≡ done out.new) }
+pub(crate) fn member_units(month: &Month) -> Result<[[u32; 7]; 32], Fault>
+    ensures { answer_by (λ units. take month.now.count units) result ≡ month_units month.now }
 {
-    copy_facts(members, facts);
-    let book = month_book(month, facts)?;
-    read_book(&book, out)
+    let book = month_book(month)?;
+    let mut units = [[0u32; 7]; 32];
+    read_book(&book, &mut units[0..month.count])?;
+    Ok(units)
 }
 
-/// What each member pays by a statement.
-pub(crate) fn member_rows(members: &[Member], statement: &[i64], out: &mut [MemberCharge])
-    requires { length out.old ≡ length members.now }
-    ensures { out.new ≡ member_rows statement.now 0 members.now }
+/// What the members of all places pay by a statement.
+pub fn member_rows(members: [Member; 32], statement: &[i64]) -> [MemberCharge; 32]
+    ensures { result ≡ member_rows statement.now 0 members }
 {
-    for i in 0..members.len() {
-        let account = members[i].account;
+    let blank = MemberCharge {
+        account: 0,
+        charges: [0; 13],
+    };
+    let mut rows = [blank; 32];
+    for (i, member) in members.iter().enumerate() {
+        let account = member.account;
         let charges = member_charges(statement, i);
-        out[i] = MemberCharge { account, charges };
+        rows[i] = MemberCharge { account, charges };
     }
+    rows
 }

@@ -7,10 +7,10 @@ ghost use Rattle.screens.specs.Screens.{rate_told, text_told};
 ghost use Rattle.ferc.specs.Rates.{rate_rule};
 ghost use Rattle.month_text.specs.Months.{read_month};
 
-use ferc::rate::ferc_rate;
+use ferc::rate::YearFigures;
 use month_text::reader::read;
 
-/// A rate, or the number of its refusal.
+/// A rate, or the number of its refusal. C has no Result.
 #[repr(C)]
 #[derive(Clone, Copy)]
 pub struct RateAnswer {
@@ -18,7 +18,7 @@ pub struct RateAnswer {
     pub number: u32,
 }
 
-/// The number of a refusal and its line; 0 and 0 where the text is accepted.
+/// The number of a refusal and its line; 0 and 0 where the text is accepted. C has no Result.
 #[repr(C)]
 #[derive(Clone, Copy)]
 pub struct TextAnswer {
@@ -30,7 +30,13 @@ pub struct TextAnswer {
 pub fn bulliongnat_ferc_rate(estimate: i64, paid: i64, recovered: i64, volume: u64) -> RateAnswer
     ensures { result ≡ rate_told (rate_rule estimate paid recovered volume) }
 {
-    match ferc_rate(estimate, paid, recovered, volume) {
+    let figures = YearFigures {
+        estimate,
+        paid,
+        recovered,
+        volume,
+    };
+    match figures.rate() {
         Ok(rate) => RateAnswer { rate, number: 0 },
         Err(fault) => RateAnswer {
             rate: 0,

@@ -5,33 +5,20 @@ ghost use Rattle.cents.specs.Cutting.{sum_z};
 ghost use Rattle.ferc.specs.Rates.{rate_rule};
 ghost use Rattle.ferc.specs.Years.{month_rule, charge_of, charges, Adds};
 
-use crate::rate::ferc_rate;
+use crate::rate::YearFigures;
 use crate::year::FercYear;
 use book::book::Book;
 use cents::rounding::nearest;
 use cents::totals::sum_of;
 use refusal::{Fault, Layer, Refusal};
 
-/// A member's charge of a month at a rate.
+/// A member's charge of a month at a rate. The sharing rule's posted share is the same sum: one for
+/// both would be a public function that asks its callers for a bound.
 fn charge(rate: i64, units: u32) -> i64
     requires { unsigned_abs rate * units ≤ 2000000000000000 }
     ensures { result ≡ charge_of rate units }
 {
     nearest(rate * i64::from(units), 100)
-}
-
-/// Writes every member's charge.
-fn write_charges<B: Book>(rate: i64, book: &B, statement: &mut [i64]) -> Result<(), Fault>
-    requires rate { unsigned_abs rate ≤ 1000000 }
-    requires long { length statement.old ≡ B.count book.now }
-    ensures told { answer result ≡ done tt }
-    ensures cells { statement.new ≡ charges rate (B.held book.now) 0 (B.count book.now) }
-{
-    for i in 0..statement.len() {
-        let units = book.units(1, i as u32)?;
-        statement[i] = charge(rate, units);
-    }
-    Ok(())
 }
 
 /// The cents of a month's statement.
@@ -56,17 +43,11 @@ impl FercYear {
     }
 
     /// Makes a year with nothing billed; refused, it is as it was.
-    pub fn make(
-        &mut self,
-        estimate: i64,
-        paid: i64,
-        recovered: i64,
-        volume: u64,
-    ) -> Result<(), Fault>
-        ensures told { answer result ≡ bare (rate_rule estimate paid recovered volume) }
-        ensures after { MatchResult result (λ _. (rate_rule estimate paid recovered volume ≡ done self.new.rate) × Adds [] self.new.months self.new.billed) (λ _. self.new ≡ self.old) }
+    pub fn make(&mut self, figures: YearFigures) -> Result<(), Fault>
+        ensures told { answer result ≡ bare (rate_rule figures.estimate figures.paid figures.recovered figures.volume) }
+        ensures after { MatchResult result (λ _. (rate_rule figures.estimate figures.paid figures.recovered figures.volume ≡ done self.new.rate) × Adds [] self.new.months self.new.billed) (λ _. self.new ≡ self.old) }
     {
-        let rate = ferc_rate(estimate, paid, recovered, volume)?;
+        let rate = figures.rate()?;
         *self = FercYear {
             rate,
             months: 0,
@@ -75,25 +56,17 @@ impl FercYear {
         Ok(())
     }
 
-    /// The year's rate.
-    pub fn rate(&self) -> i64
-        ensures { result ≡ self.now.rate }
+    /// Writes every member's charge.
+    fn write_charges<B: Book>(&self, book: &B, statement: &mut [i64]) -> Result<(), Fault>
+        requires { length statement.old ≡ B.count book.now }
+        ensures told { answer result ≡ done tt }
+        ensures cells { statement.new ≡ charges self.now.rate (B.held book.now) 0 (B.count book.now) }
     {
-        self.rate
-    }
-
-    /// How many months are billed.
-    pub fn months(&self) -> u32
-        ensures { result ≡ self.now.months }
-    {
-        self.months
-    }
-
-    /// The cents billed so far.
-    pub fn billed(&self) -> i64
-        ensures { result ≡ self.now.billed }
-    {
-        self.billed
+        for (i, cell) in statement.iter_mut().enumerate() {
+            let units = book.units(1, i as u32)?;
+            *cell = charge(self.rate, units);
+        }
+        Ok(())
     }
 
     /// Bills a month: one cell for each member of the book. Refused, nothing changes.
@@ -108,15 +81,9 @@ impl FercYear {
         if self.months >= 12 {
             return Err(Layer::Ferc.refuses(Refusal::Year));
         }
-        write_charges(self.rate, book, statement)?;
-        let billed = self.billed + month_cents(statement);
-        let months = self.months + 1;
-        let rate = self.rate;
-        *self = FercYear {
-            rate,
-            months,
-            billed,
-        };
+        self.write_charges(book, statement)?;
+        self.months += 1;
+        self.billed += month_cents(statement);
         Ok(())
     }
 }

@@ -1,8 +1,0 @@
-use Rattle.std.proofs.Common.{◌≡◌, ◌-◌, ◌++◌, take}
-use Rattle.ferc.specs.Years.{charges}
-use Rattle.ferc.proofs.year.calls.write_charges.Given as goal
-
--- the charges so far, followed by those that are left
-abbrev pub invariant-loop-i : goal.invariant-loop-i
-invariant-loop-i g l =
-    take l.i l.statement ++ charges l.rate (g.B.Book.held l.book) l.i (g.B.Book.count l.book - l.i) ≡ charges l.rate (g.B.Book.held l.book) 0 (g.B.Book.count l.book)
