@@ -23,18 +23,22 @@ pub returns-in-None-2-clause-told : goal.returns-in-None-2-clause-told
 returns-in-None-2-clause-told c =
     let s = c.args.self.now in
     let u = used_length s.used s.list (omega (arith, s.room, s.long)) in
-    let t = takes_not (take s.used s.list) c.args.pair.kind c.args.pair.member (omega (arith, u)) (grind (arith, u, c.in-None.ensures)) in
+    let p : length (take s.used s.list) ≤ place_of (take s.used s.list) c.args.pair.kind c.args.pair.member = grind (arith, c.in-None.ensures) in
+    let t = takes_not (take s.used s.list) c.args.pair.kind c.args.pair.member (omega (arith, u)) (omega (arith, u, p)) in
     rw (t, c.refuses.ensures) cc
 
 pub returns-in-Some-clause-after : goal.returns-in-Some-clause-after
 returns-in-Some-clause-after c k m =
     let s = c.args.self.now in
-    let u = used_length s.used s.list (omega (arith, s.room, s.long)) in
-    kept s.used s.used c.in-Some.at s.list (record { pair = c.args.pair; units = c.args.units }) k m (omega (arith, s.room, s.long)) (grind (arith, c.in-Some.ensures)) (grind (arith, u, c.in-Some.ensures)) (grind (arith, u, c.in-Some.ensures))
+    let room : s.used ≤ length s.list = omega (arith, s.room, s.long) in
+    let u = used_length s.used s.list room in
+    let l : c.in-Some.at < s.used = grind (arith, u, c.in-Some.ensures) in
+    kept s.used _ c.in-Some.at s.list (record { pair = c.args.pair; units = c.args.units }) k m room (grind (arith, c.in-Some.ensures)) (omega (arith, room, l)) (omega (arith, l))
 
 pub returns-in-None-clause-after : goal.returns-in-None-clause-after
 returns-in-None-clause-after c k m =
     let s = c.args.self.now in
-    let u = used_length s.used s.list (omega (arith, s.room, s.long)) in
+    let room : s.used ≤ length s.list = omega (arith, s.room, s.long) in
+    let u = used_length s.used s.list room in
     let p = place_le (take s.used s.list) c.args.pair.kind c.args.pair.member in
-    kept s.used (s.used + 1) s.used s.list (record { pair = c.args.pair; units = c.args.units }) k m (omega (arith, s.room, s.long)) (grind (arith, u, p, c.in-None.ensures)) (omega (arith, s.long)) (omega arith)
+    kept s.used _ s.used s.list (record { pair = c.args.pair; units = c.args.units }) k m room (grind (arith, u, p, c.in-None.ensures)) (omega (arith, s.long)) (omega arith)
