@@ -1,6 +1,6 @@
 -- Corrected pairs, as a list.
 use Rattle.std.specs.Prelude.{ℕ, ◌≤◌, Bool, ◌||◌, List, length, is_some, Option, nat_lt}
-use Rattle.std.specs.List.{All, find}
+use Rattle.std.specs.List.{All, find, position_or_len}
 use Rattle.std.specs.Option.{option_map}
 use Rattle.book.specs.Correcting.{same_pair}
 use Rattle.corrections.specs.declared.fixes.Fix.{Fix}
@@ -11,6 +11,10 @@ Small fixes = All (λ f. f.units ≤ 2000000000) fixes
 
 abbrev pub is_for : ℕ → ℕ → Fix → Bool
 is_for kind member f = same_pair (kind, member) (f.pair.kind, f.pair.member)
+
+-- the place of a pair among the fixes, or their count
+abbrev pub place_of : List Fix → ℕ → ℕ → ℕ
+place_of fixes kind member = position_or_len (is_for kind member) fixes
 
 -- the units that a pair was corrected to
 abbrev pub seek : List Fix → ℕ → ℕ → Option ℕ

@@ -1,2 +1,3 @@
 pub mod Fixes
+pub mod Places
 pub mod Values
