@@ -10,6 +10,18 @@ use cents::weights::total;
 use charges_text::charges::ComponentCharge;
 use sharing::rule::Rule;
 
+/// The place of the kind that the component at a place is charged by.
+pub fn kind_of(component: usize) -> usize
+    ensures value { result ≡ kind_of component }
+    ensures below { component < 13 → result < 7 }
+{
+    if component < 7 {
+        component
+    } else {
+        component - 7
+    }
+}
+
 /// A component, by its place among the thirteen.
 #[derive(Clone, Copy)]
 pub struct Component {
@@ -29,12 +41,9 @@ impl Component {
     pub fn kind(self) -> Kind
         ensures { result.place ≡ kind_of self.place }
     {
-        let place = if self.place < 7 {
-            self.place
-        } else {
-            self.place - 7
-        };
-        Kind { place }
+        Kind {
+            place: kind_of(self.place),
+        }
     }
 }
 
