@@ -1,11 +1,11 @@
 -- The parts of a cut lie inside the amount and add up to it.
-use Rattle.std.proofs.Common.{◌≡◌, ℕ, zero, suc, ◌+◌, ◌-◌, ◌*◌, ◌^◌, ◌<◌, ◌≤◌, List, [], ◌∷◌, ◌++◌, length, get_or, take, drop, set, ℤ, pos, ◌+ℤ◌, ◌-ℤ◌, ◌*ℤ◌, sum, sym, refl, ap, ◌∙◌, subst, mul-le-mul, arith, w64, SFits}
+use Rattle.std.proofs.Common.{◌≡◌, ℕ, zero, suc, ◌+◌, ◌-◌, ◌*◌, ◌^◌, ◌<◌, ◌≤◌, min, List, [], ◌∷◌, ◌++◌, length, get_or, take, drop, set, ℤ, pos, ◌+ℤ◌, ◌-ℤ◌, ◌*ℤ◌, sum, sym, refl, ap, ◌∙◌, subst, mul-le-mul, arith, w64, SFits}
 use Rattle.std.proofs.lemmas.List.{take_more_set, drop_more, append_assoc}
 use borrow.Author.Differences.{ints, up, down}
 use mir.Syntax.{w128}
 use Rattle.std.proofs.lemmas.List.Sums.{sum_by-cons}
 use Rattle.cents.specs.Rounding.{Inside}
-use Rattle.cents.specs.Cutting.{taken, parts_from, cut, sum_z}
+use Rattle.cents.specs.Cutting.{taken, parts_from, parts_up_to, cut, sum_z}
 use Rattle.cents.proofs.Products.{mul_plus, mul_minus}
 use Rattle.cents.proofs.Quotients.{inside, down_left, down_unique}
 
@@ -63,13 +63,30 @@ product_fits a x y n f h e g =
     let q : down a * n ≤ (2 ^ 63) * (2 ^ 64 - 1) = mul-le-mul {n₂ = 2 ^ 63} {m₂ = 2 ^ 64 - 1} (omega (arith, ints)) (omega arith) in
     rw (e, g) (omega (arith, ints, p, q))
 
--- one part more: the parts so far, followed by those that are left, stay the cut
+pub up_to_inside : (a : ℤ) (T x u : ℕ) → Inside a (taken a T (min (x + u) T) -ℤ taken a T (min x T))
+up_to_inside a T x u =
+    let e : min x T + (min (x + u) T - min x T) ≡ min (x + u) T = omega arith in
+    subst (λ (n : ℕ). Inside a (taken a T n -ℤ taken a T (min x T))) e (part_inside a T (min x T) (min (x + u) T - min x T) (omega arith))
+
+-- one part more: the parts so far, followed by those that are left, stay all parts
 pub parts_more : (a : ℤ) (T i run w : ℕ) (p : ℤ) (ws : List ℕ) (ps all : List ℤ) → i < length ws → i < length ps → w ≡ get_or ws i 0
-    → p ≡ taken a T (run + w) -ℤ taken a T run → take i ps ++ parts_from a T run (drop i ws) ≡ all
-    → take (i + 1) (set ps i p) ++ parts_from a T (run + w) (drop (i + 1) ws) ≡ all
+    → p ≡ taken a T (min (run + w) T) -ℤ taken a T (min run T) → take i ps ++ parts_up_to a T run (drop i ws) ≡ all
+    → take (i + 1) (set ps i p) ++ parts_up_to a T (run + w) (drop (i + 1) ws) ≡ all
 parts_more a T i run w p ws ps all lw lp f e h =
-    let d : parts_from a T run (drop i ws) ≡ parts_from a T run (w ∷ drop (i + 1) ws) = rw f (ap (parts_from a T run) (drop_more ws i 0 lw)) in
+    let d : parts_up_to a T run (drop i ws) ≡ parts_up_to a T run (w ∷ drop (i + 1) ws) = rw f (ap (parts_up_to a T run) (drop_more ws i 0 lw)) in
     rw (take_more_set ps i p lp, append_assoc, e) (ap (λ (xs : List ℤ). take i ps ++ xs) (sym d) ∙ h)
+
+-- the parts of weights that do not pass the whole
+up_to_from : (a : ℤ) (T x : ℕ) (ws : List ℕ) → x + sum ws ≤ T → parts_up_to a T x ws ≡ parts_from a T x ws
+up_to_from a T x [] h = refl
+up_to_from a T x (w ∷ ws) h =
+    let l : x + w + sum ws ≤ T = omega (arith, sum_by-cons (λ n. n) w ws) in
+    let f : min (x + w) T ≡ x + w = omega arith in
+    let e : min x T ≡ x = omega arith in
+    rw (f, e, up_to_from a T (x + w) ws l) refl
+
+pub up_to_cut : (a : ℤ) (T : ℕ) (ws : List ℕ) → T ≡ sum ws → parts_up_to a T 0 ws ≡ cut a ws
+up_to_cut a T ws e = rw e (up_to_from a (sum ws) 0 ws (omega arith))
 
 -- every part of a cut lies between 0 and the amount
 pub parts_inside : (a : ℤ) (T x : ℕ) (ws : List ℕ) (k : ℕ) → x + sum ws ≤ T → Inside a (get_or (parts_from a T x ws) k (pos 0))

@@ -1,6 +1,6 @@
 //! Cutting an amount over weights, so that the parts add up to it again.
-ghost use Rattle.std.specs.Prelude.{◌≡◌, ◌<◌, ◌≤◌, min, length, sum};
-ghost use Rattle.cents.specs.Cutting.{cut, taken, sum_z};
+ghost use Rattle.std.specs.Prelude.{◌≡◌, ◌≢◌, ◌<◌, ◌≤◌, min, length, sum};
+ghost use Rattle.cents.specs.Cutting.{cut, parts_up_to, taken, sum_z};
 ghost use Rattle.cents.specs.Rounding.{Inside};
 
 use crate::rounding::down;
@@ -16,16 +16,20 @@ pub fn taken(amount: i64, run: u64, whole: u64) -> i64
     down(i128::from(amount) * i128::from(run), whole) as i64
 }
 
-/// Writes what each weight takes of the amount, after those before it.
+/// Writes what each weight takes of the amount, after those before it. Where there is not one place
+/// for each weight, nothing is written; a running sum above the whole counts as the whole.
 pub fn split(amount: i64, whole: u64, weights: &[u32], out: &mut [i64])
-    requires whole { whole ≡ sum weights.now }
-    requires long { length weights.now ≡ length out.old }
-    ensures { out.new ≡ cut amount weights.now }
+    ensures parts { length weights.now ≡ length out.old → out.new ≡ parts_up_to amount whole 0 weights.now }
+    ensures short { length weights.now ≢ length out.old → out.new ≡ out.old }
+    ensures cut { length weights.now ≡ length out.old → whole ≡ sum weights.now → out.new ≡ cut amount weights.now }
 {
+    if weights.len() != out.len() {
+        return;
+    }
     let mut run = 0u64;
     let mut before = 0i64;
     for (i, weight) in weights.iter().enumerate() {
-        run += u64::from(*weight);
+        run = run.saturating_add(u64::from(*weight));
         let upto = taken(amount, run, whole);
         out[i] = upto - before;
         before = upto;

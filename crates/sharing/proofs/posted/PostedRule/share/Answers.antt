@@ -6,16 +6,20 @@ use Rattle.sharing.specs.PostedShares.{rate_fits}
 use Rattle.sharing.specs.Members.{map_from_places}
 use Rattle.sharing.proofs.posted.PostedRule.share.Goals as goal
 
-pub lay-requires-clause-callable : goal.lay-requires-clause-callable
-lay-requires-clause-callable c m l =
-    let e : shareable c.args.pool c.args.units.now ≡ true = grind (arith, common_steps) in
-    let q : c.posted_rate-rate.result ≡ posted_rate c.args.pool (sum c.args.units.now) = grind (arith, common_steps) in
-    let r : nat_abs c.posted_rate-rate.result * get_or c.args.units.now m 0 ≤ 1000000000000 = rw q (rate_fits c.args.pool c.args.units.now e m) in
-    search rules
+pub lay-requires : goal.lay-requires
+lay-requires c =
+    record {
+      callable = λ m l.
+          let e : shareable c.args.pool c.args.units.now ≡ true = grind (arith, common_steps) in
+          let q : c.posted_rate-rate.result ≡ posted_rate c.args.pool (sum c.args.units.now) = grind (arith, common_steps) in
+          let r : nat_abs c.posted_rate-rate.result * get_or c.args.units.now m 0 ≤ 1000000000000 = rw q (rate_fits c.args.pool c.args.units.now e m) in
+          search rules;
+    }
 
 pub returns-in-Some : goal.returns-in-Some
 returns-in-Some c =
-    let d : (m : ℕ) → m < length c.args.units.now → get_or c.lay.new.out m (pos 0) ≡ posted_share c.posted_rate-rate.result (get_or c.args.units.now m 0) = λ m l. let h = c.lay.ensures m l in search rules in
+    let n : length c.args.units.now ≡ length c.to_share.new.out = grind (arith, common_steps) in
+    let d : (m : ℕ) → m < length c.args.units.now → get_or c.lay.new.out m (pos 0) ≡ posted_share c.posted_rate-rate.result (get_or c.args.units.now m 0) = λ m l. let h = c.lay.ensures.shares n m l in search rules in
     let e = map_from_places (posted_share c.posted_rate-rate.result) c.args.units.now c.lay.new.out (grind (arith, common_steps)) d in
     let q : c.posted_rate-rate.result ≡ posted_rate c.args.pool (sum c.args.units.now) = grind (arith, common_steps) in
     grind (arith, common_steps)
