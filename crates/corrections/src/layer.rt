@@ -3,7 +3,7 @@
 ghost use Rattle.std.specs.Prelude.{◌≡◌, [], take, is_some};
 ghost use Rattle.std.specs.Option.{unwrap_or};
 ghost use Rattle.corrections.specs.Fixes.{seek, takes_pair};
-ghost use Rattle.corrections.specs.Values.{value_small};
+ghost use Rattle.corrections.specs.Values.{kept_small};
 ghost use Rattle.std.proofs.Common.{rules};
 
 use crate::fixes::Fixes;
@@ -43,7 +43,7 @@ impl<B: Book> Book for Corrections<B> {
 
     ghost peopled = { Prim.search rules };
 
-    ghost bounded = { λ b kind member. value_small b.fixes.used b.fixes.list kind member _ b.fixes.small (B.Book.bounded b.book kind member) };
+    ghost bounded = { λ b kind member. kept_small b.fixes.used b.fixes.list kind member _ b.fixes.small (B.Book.bounded b.book kind member) };
 
     fn month(&self) -> u32 {
         self.book.month()
