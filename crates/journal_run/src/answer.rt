@@ -2,7 +2,7 @@
 use crate::orders::{journal_orders, order_count};
 use crate::printing::order_text;
 use crate::running::{Ran, run_orders};
-use crate::sums::Sums;
+use crate::sums::{Account, Sums};
 use charges_text::refusals::refusal_text;
 use journal_text::entry::Entry;
 use journal_text::reader::read_journal;
@@ -23,8 +23,12 @@ fn ran_text(heap: Global, entries: &[Entry], ran: &Ran) -> Result<String, AllocE
         text.push_str(part.as_str())?;
         sums.add(entry, *outcome, cells);
     }
-    let last = sums.text(heap, ran.balances, ran.waiting)?;
-    text.push_str(last.as_str())?;
+    let account = Account {
+        sums,
+        balances: ran.balances,
+        waiting: ran.waiting,
+    };
+    write!(text, "{account}")?;
     Ok(text)
 }
 

@@ -8,6 +8,7 @@ use month_text::month::Month;
 use refusal::Fault;
 use runs::done::Done;
 use std::alloc::{AllocError, Global};
+use std::fmt;
 
 /// A month's charges, as a month that is billed alone prints them.
 fn bill_text(
@@ -21,27 +22,29 @@ fn bill_text(
     charges_text(heap, month.month, components, members)
 }
 
-/// What each member pays or gets back.
-fn difference_lines(heap: Global, month: &Month, cells: &[i64]) -> Result<String, AllocError> {
-    let mut text = String::new(heap);
-    for (member, cents) in month.members.iter().zip(cells.iter()).take(month.count) {
-        let account = member.account;
-        let line = format!(in heap; "difference={account},{cents}\n")?;
-        text.push_str(line.as_str())?;
-    }
-    Ok(text)
+/// A resettlement's month and component, and what each member pays or gets back.
+#[derive(Clone, Copy)]
+struct Resettled<'a> {
+    component: u32,
+    month: &'a Month,
+    cells: &'a [i64],
 }
 
-/// A resettlement's month and component, and its differences.
-fn resettled_text(
-    heap: Global,
-    component: u32,
-    month: &Month,
-    cells: &[i64],
-) -> Result<String, AllocError> {
-    let number = month.month;
-    let lines = difference_lines(heap, month, cells)?;
-    format!(in heap; "resettled={number},{component}\n{lines}")
+impl fmt::Display for Resettled<'_> {
+    fn fmt<W: fmt::Write>(&self, f: &mut fmt::Formatter<W>) -> fmt::Result {
+        let Resettled {
+            component,
+            month,
+            cells,
+        } = *self;
+        let number = month.month;
+        writeln!(f, "resettled={number},{component}")?;
+        for (member, cents) in month.members.iter().zip(cells.iter()).take(month.count) {
+            let account = member.account;
+            writeln!(f, "difference={account},{cents}")?;
+        }
+        Ok(())
+    }
 }
 
 /// What an order came to. A booking prints nothing, since its bill follows.
@@ -54,7 +57,13 @@ pub(crate) fn order_text(
     match (outcome, entry.action) {
         (Ok(Done::Billed(components)), _) => bill_text(heap, &entry.month, components, cells),
         (Ok(Done::Resettled), Action::Resettle(component)) => {
-            resettled_text(heap, component, &entry.month, cells)
+            let month = &entry.month;
+            let resettled = Resettled {
+                component,
+                month,
+                cells,
+            };
+            format!(in heap; "{resettled}")
         }
         (Err(fault), _) => refusal_text(heap, fault),
         _ => Ok(String::new(heap)),

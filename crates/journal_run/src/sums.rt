@@ -3,7 +3,7 @@ use cents::totals::sum_of;
 use journal_text::entry::Entry;
 use refusal::Fault;
 use runs::done::Done;
-use std::alloc::{AllocError, Global};
+use std::fmt;
 
 /// All cents booked, and all cents billed. A journal is too short for either to reach the end of its type.
 #[derive(Clone, Copy, Default)]
@@ -25,22 +25,25 @@ impl Sums {
             Err(_) => {}
         }
     }
+}
 
-    /// The last lines: every cent booked was billed, is in a balance, or waits.
-    pub(crate) fn text(
-        self,
-        heap: Global,
-        balances: [i64; 13],
-        waiting: [i64; 6],
-    ) -> Result<String, AllocError> {
-        let booked = self.booked;
-        let billed = self.billed;
-        let balances = sum_of(&balances);
-        let waiting = sum_of(&waiting);
+/// The account of a run: what was booked and billed, what the balances hold, and what waits.
+#[derive(Clone, Copy)]
+pub(crate) struct Account {
+    pub sums: Sums,
+    pub balances: [i64; 13],
+    pub waiting: [i64; 6],
+}
+
+// The last lines: every cent booked was billed, is in a balance, or waits.
+impl fmt::Display for Account {
+    fn fmt<W: fmt::Write>(&self, f: &mut fmt::Formatter<W>) -> fmt::Result {
+        let Sums { booked, billed } = self.sums;
+        let balances = sum_of(&self.balances);
+        let waiting = sum_of(&self.waiting);
         let found = billed.saturating_add(balances).saturating_add(waiting);
         let agree = if booked == found { "yes" } else { "no" };
-        let first = format!(in heap; "booked={booked}\nbilled={billed}\n")?;
-        let second = format!(in heap; "balances={balances}\nwaiting={waiting}\n")?;
-        format!(in heap; "{first}{second}agree={agree}\n")
+        writeln!(f, "booked={booked}\nbilled={billed}")?;
+        writeln!(f, "balances={balances}\nwaiting={waiting}\nagree={agree}")
     }
 }

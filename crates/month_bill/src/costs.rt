@@ -15,7 +15,11 @@ pub fn month_sheet(month: &Month) -> Result<Sheet, Fault>
     ensures { answer_by (λ sheet. (sheet.division, sheet.management, sheet.split)) result ≡ month_sheet month.now }
 {
     let mut sheet = Sheet::even();
-    sheet.lay(month.sheet.division, month.sheet.management, month.sheet.split)?;
+    sheet.lay(
+        month.sheet.division,
+        month.sheet.management,
+        month.sheet.split,
+    )?;
     Ok(sheet)
 }
 
