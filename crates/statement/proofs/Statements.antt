@@ -6,6 +6,9 @@ use Rattle.charges_text.specs.declared.charges.ComponentCharge.{ComponentCharge}
 use Rattle.statement.specs.Columns.{kind_of, column}
 use Rattle.statement.specs.Charges.{Shares, charge, charged, components, cells}
 
+pub next_row : (c n : ℕ) → (c + 1) * n ≡ c * n + n
+next_row c n = omega arith
+
 module _ (shares : Shares) (long : (p : ℤ) (us : List ℕ) → length (shares p us) ≡ length us) (pools : List ℤ) (rows : List (List ℕ)) where
   pub charge_length : (c : ℕ) → length (charge shares pools rows c) ≡ length rows
   charge_length c = long (get_or pools c (pos 0)) (column rows (kind_of c)) ∙ length-map rows (λ row. get_or row (kind_of c) 0)
