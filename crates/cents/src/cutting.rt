@@ -28,6 +28,7 @@ pub fn split(amount: i64, whole: u64, weights: &[u32], out: &mut [i64])
     }
     let mut run = 0u64;
     let mut before = 0i64;
+    // By its place: an adapter of iter_mut tells nothing of what was written.
     for (i, weight) in weights.iter().enumerate() {
         run = run.saturating_add(u64::from(*weight));
         let upto = taken(amount, run, whole);

@@ -6,7 +6,7 @@ ghost use Rattle.cents.specs.Cutting.{sum_z};
 pub fn sum_of(amounts: &[i64]) -> i128
     ensures { result ≡ sum_z amounts.now }
 {
-    // a loop and not a `fold`: each sum so far is bounded by how many amounts it has
+    // A loop and not a `fold`: each sum so far is bounded by how many amounts it has
     let mut sum = 0i128;
     for amount in amounts {
         sum += i128::from(*amount);

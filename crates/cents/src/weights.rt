@@ -1,10 +1,12 @@
 //! Rows of weights.
-ghost use Rattle.std.specs.Prelude.{◌≡◌, ◌-◌, ◌^◌, min, sum, ◌==◌, nat_le};
+ghost use Rattle.std.specs.Prelude.{◌≡◌, ◌-◌, ◌^◌, ◌≤◌, length, min, sum, ◌==◌, nat_le};
 ghost use Rattle.cents.specs.Passes.{all_pass};
 
-/// The sum of a row of weights, which stops growing at the largest 64-bit number.
+/// The sum of a row of weights, which stops growing at the largest 64-bit number: no row of at most
+/// 65,536 weights reaches it.
 pub fn total(weights: &[u32]) -> u64
-    ensures { result ≡ min (sum weights.now) (2 ^ 64 - 1) }
+    ensures value { result ≡ min (sum weights.now) (2 ^ 64 - 1) }
+    ensures exact { length weights.now ≤ 65536 → result ≡ sum weights.now }
 {
     weights
         .iter()

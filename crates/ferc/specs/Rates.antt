@@ -3,6 +3,7 @@ use Rattle.std.specs.Prelude.{ℕ, Bool, cond, not, ◌&&◌, ◌||◌, ℤ, pos
 use Rattle.refusal.specs.Answers.{Told, done, refused}
 use Rattle.refusal.specs.declared.Layer.TheVariants as layer
 use Rattle.cents.specs.Rounding.{round_nearest}
+use Rattle.ferc.specs.declared.rate.YearFigures.{YearFigures}
 
 -- this year's estimate, the prior year's paid charge and its recovery: each within ±40,000,000,000
 abbrev pub cost_lawful : ℤ → ℤ → ℤ → Bool
@@ -23,3 +24,7 @@ rate_rule estimate paid recovered volume =
     (cond (nat_lt 20000000000 volume) (refused 2 layer.Ferc 0)
     (cond (volume == 0 || nat_lt 1000000 (unsigned_abs (rate_of (year_cost estimate paid recovered) volume))) (refused 17 layer.Ferc 0)
     (done (rate_of (year_cost estimate paid recovered) volume))))
+
+-- the rate of a year by its figures
+abbrev pub figures_rule : YearFigures → Told ℤ
+figures_rule figures = rate_rule figures.estimate figures.paid figures.recovered figures.volume

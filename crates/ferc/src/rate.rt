@@ -1,7 +1,7 @@
 //! The rate of a FERC year, in hundredths of a cent for a megawatt-hour.
 ghost use Rattle.std.specs.Prelude.{◌≡◌, ◌≤◌, true, unsigned_abs};
 ghost use Rattle.refusal.specs.Answers.{answer};
-ghost use Rattle.ferc.specs.Rates.{cost_lawful, year_cost, rate_of, rate_rule};
+ghost use Rattle.ferc.specs.Rates.{cost_lawful, year_cost, rate_of, figures_rule};
 
 use cents::rounding::nearest;
 use refusal::{Fault, Layer, Refusal};
@@ -55,7 +55,7 @@ impl YearFigures {
     /// The rate; refused where a figure is out of range, there is no volume, or the rate itself is
     /// out of range.
     pub fn rate(&self) -> Result<i64, Fault>
-        ensures { answer result ≡ rate_rule self.now.estimate self.now.paid self.now.recovered self.now.volume }
+        ensures { answer result ≡ figures_rule self.now }
     {
         if !self.costs_lawful() {
             return Err(Layer::Ferc.refuses(Refusal::Range));

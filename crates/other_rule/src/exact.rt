@@ -9,10 +9,11 @@ ghost use Rattle.other_rule.specs.ExactShares.{each_near, exact_none};
 ghost use Rattle.sharing.specs.Members.{map_unused};
 
 use cents::rounding::nearest;
-use sharing::domain::to_share;
+use sharing::domain::total_or_clear;
 use sharing::laying::lay;
 use sharing::rule::Rule;
 
+// The third `nearest(a × units, b)`: one for all would be public, with a bound asked of callers.
 /// The nearest to a member's exact part of the pool.
 fn exact_share(pool: i64, total: u64, units: u32) -> i64
     requires { unsigned_abs pool * units ≤ 8000000000000000000 }
@@ -43,7 +44,7 @@ impl Rule for Exact {
     ghost unused = { λ x p us m e. shared_unused p us _ m (map_unused _ us m (Prim.search (rules, exact_none)) e) };
 
     fn share(&self, pool: i64, units: &[u32], out: &mut [i64]) {
-        if let Some(total) = to_share(pool, units, out) {
+        if let Some(total) = total_or_clear(pool, units, out) {
             lay(units, out, |member| exact_share(pool, total, member));
         }
     }

@@ -18,9 +18,9 @@ pub fn in_domain(pool: i64, total: u64) -> bool
     pool.unsigned_abs() <= MOST_CENTS && 1 <= total && total <= MOST_UNITS
 }
 
-/// The sum of the units, where shares are to be written over it. Where there is not one place for
-/// each member, nothing is; where nothing can be shared, each place gets 0.
-pub fn to_share(pool: i64, units: &[u32], out: &mut [i64]) -> Option<u64>
+/// The total to share over; none where nothing is shared: then each place gets 0, or stays where
+/// there is not one for each member.
+pub fn total_or_clear(pool: i64, units: &[u32], out: &mut [i64]) -> Option<u64>
     ensures over { result ≡ (if length units.now == length out.old && shareable pool units.now then Some (sum units.now) else None) }
     ensures rest { out.new ≡ laid units.now out.old (shared pool units.now out.old) }
 {

@@ -11,6 +11,7 @@ pub fn lay<F: Fn(u32) -> i64>(units: &[u32], out: &mut [i64], share: F)
     if units.len() != out.len() {
         return;
     }
+    // By its place: an adapter of iter_mut tells nothing of what was written.
     for (i, member) in units.iter().enumerate() {
         out[i] = share(*member);
     }

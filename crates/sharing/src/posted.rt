@@ -7,7 +7,7 @@ ghost use Rattle.std.proofs.Common.{rules, arith};
 ghost use Rattle.sharing.specs.PostedShares.{each_near, nearest_none};
 ghost use Rattle.sharing.specs.Members.{map_unused};
 
-use crate::domain::{in_domain, to_share};
+use crate::domain::{in_domain, total_or_clear};
 use crate::laying::lay;
 use crate::rule::Rule;
 use cents::rounding::nearest;
@@ -22,8 +22,8 @@ pub fn posted_rate(pool: i64, total: u64) -> i64
     nearest(100 * pool, total)
 }
 
+// A year's charge has this form too: one for both would be public, with a bound asked of callers.
 /// What a member's units bear at a rate, in cents.
-// a year's charge has this form too: one function for both would be public, with a `requires`, and no plainer
 fn posted_share(rate: i64, units: u32) -> i64
     requires { unsigned_abs rate * units ≤ 1000000000000 }
     ensures { result ≡ posted_share rate units }
@@ -53,7 +53,7 @@ impl Rule for Posted {
     ghost unused = { λ x p us m e. shared_unused p us _ m (map_unused _ us m (nearest_none 100 (posted_rate p (sum us)) (omega arith)) e) };
 
     fn share(&self, pool: i64, units: &[u32], out: &mut [i64]) {
-        if let Some(total) = to_share(pool, units, out) {
+        if let Some(total) = total_or_clear(pool, units, out) {
             let rate = posted_rate(pool, total);
             lay(units, out, |member| posted_share(rate, member));
         }

@@ -8,7 +8,7 @@ ghost use Rattle.sharing.specs.RatioShares.{part_near, part_unused};
 ghost use Rattle.sharing.specs.Domains.{in_domain_lem};
 ghost use Rattle.std.proofs.Common.{rules};
 
-use crate::domain::to_share;
+use crate::domain::total_or_clear;
 use crate::rule::Rule;
 use cents::cutting::split;
 
@@ -34,7 +34,7 @@ impl Rule for Ratio {
     ghost unused = { λ x p us m e. shared_unused p us (cut p us) m (part_unused p (sum us) 0 us m e) };
 
     fn share(&self, pool: i64, units: &[u32], out: &mut [i64]) {
-        if let Some(total) = to_share(pool, units, out) {
+        if let Some(total) = total_or_clear(pool, units, out) {
             split(pool, total, units, out);
         }
     }

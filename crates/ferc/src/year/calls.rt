@@ -2,7 +2,7 @@
 ghost use Rattle.std.specs.Prelude.{◌≡◌, ◌+◌, ◌*◌, ◌≤◌, List, [], ◌∷◌, length, ℤ, pos, ◌+ℤ◌, MatchResult, unsigned_abs};
 ghost use Rattle.refusal.specs.Answers.{answer, bare, done};
 ghost use Rattle.cents.specs.Cutting.{sum_z};
-ghost use Rattle.ferc.specs.Rates.{rate_rule};
+ghost use Rattle.ferc.specs.Rates.{figures_rule};
 ghost use Rattle.ferc.specs.Years.{month_rule, charge_of, charges, Adds};
 
 use crate::rate::YearFigures;
@@ -44,8 +44,8 @@ impl FercYear {
 
     /// Makes a year with nothing billed; refused, it is as it was.
     pub fn make(&mut self, figures: YearFigures) -> Result<(), Fault>
-        ensures told { answer result ≡ bare (rate_rule figures.estimate figures.paid figures.recovered figures.volume) }
-        ensures after { MatchResult result (λ _. (rate_rule figures.estimate figures.paid figures.recovered figures.volume ≡ done self.new.rate) × Adds [] self.new.months self.new.billed) (λ _. self.new ≡ self.old) }
+        ensures told { answer result ≡ bare (figures_rule figures) }
+        ensures after { MatchResult result (λ _. (figures_rule figures ≡ done self.new.rate) × Adds [] self.new.months self.new.billed) (λ _. self.new ≡ self.old) }
     {
         let rate = figures.rate()?;
         *self = FercYear {

@@ -18,7 +18,7 @@ lay-requires c =
 
 pub returns-in-Some : goal.returns-in-Some
 returns-in-Some c =
-    let n : length c.args.units.now ≡ length c.to_share.new.out = grind (arith, common_steps) in
+    let n : length c.args.units.now ≡ length c.total_or_clear.new.out = grind (arith, common_steps) in
     let d : (m : ℕ) → m < length c.args.units.now → get_or c.lay.new.out m (pos 0) ≡ posted_share c.posted_rate-rate.result (get_or c.args.units.now m 0) = λ m l. let h = c.lay.ensures.shares n m l in search rules in
     let e = map_from_places (posted_share c.posted_rate-rate.result) c.args.units.now c.lay.new.out (grind (arith, common_steps)) d in
     let q : c.posted_rate-rate.result ≡ posted_rate c.args.pool (sum c.args.units.now) = grind (arith, common_steps) in
