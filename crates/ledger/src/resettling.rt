@@ -8,7 +8,7 @@ ghost use Rattle.ledger.specs.Files.{row_at, lines_of, put};
 ghost use Rattle.ledger.specs.Standings.{account_at};
 ghost use Rattle.ledger.specs.Resettling.{differences, lines_at, shares_again, change_rule};
 
-use crate::accounts::Accounts;
+use crate::accounts::{Accounts, slot_of};
 use crate::changes::find_changes;
 use crate::line::Line;
 use crate::resettlement::Resettlement;
@@ -106,7 +106,7 @@ pub(crate) fn resettle_lines<R: Rule, B: Book>(
     let account = accounts.rows[component.place];
     let row = Resettlement {
         component,
-        pool: account.pools[(month % 6) as usize],
+        pool: account.pools[slot_of(month)],
         balance: account.balance,
     };
     let start = accounts.row_start(month, component);
