@@ -24,6 +24,7 @@ use statement::kind::Kind;
 const MOST_UNITS: u64 = 2_000_000_000;
 
 /// Reads the units of a kind, member by member.
+// Here and below slices are lent, so `requires` has their lengths: they are tested once, before.
 fn read_kind<B: Book>(book: &B, kind: Kind, out: &mut [u32]) -> Result<(), Fault>
     requires { length out.old ≡ B.count book.now }
     ensures told { answer result ≡ done tt }
