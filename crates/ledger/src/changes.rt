@@ -1,5 +1,5 @@
 //! What a resettlement changes: new shares less the cents billed to date, and the balance left.
-ghost use Rattle.std.specs.Prelude.{◌≡◌, ℕ, ◌+◌, ◌≤◌, true, ◌&&◌, length, pos, ◌-ℤ◌, if◌then◌else◌, Some, None, sum, OnOk, slice_index_or, unsigned_abs};
+ghost use Rattle.std.specs.Prelude.{◌≡◌, ℕ, ◌+◌, ◌≤◌, true, ◌&&◌, length, pos, ◌-ℤ◌, if◌then◌else◌, Some, None, OnOk, slice_index_or, unsigned_abs};
 ghost use Rattle.cents.specs.Cutting.{sum_z};
 ghost use Rattle.refusal.specs.Answers.{answer, done, refused};
 ghost use Rattle.refusal.specs.declared.Layer.TheVariants as layer;

@@ -1,5 +1,5 @@
 //! What a resettlement reads and writes.
-ghost use Rattle.std.specs.Prelude.{◌≡◌, ◌+◌, ◌*◌, ◌<◌, ◌≤◌, length, if◌then◌else◌, sum, MatchResult, OnOk, nat_le, unsigned_abs};
+ghost use Rattle.std.specs.Prelude.{◌≡◌, ◌+◌, ◌*◌, ◌≤◌, length, if◌then◌else◌, sum, MatchResult, OnOk, nat_le, unsigned_abs};
 ghost use Rattle.refusal.specs.Answers.{answer, done, refused};
 ghost use Rattle.refusal.specs.declared.Layer.TheVariants as layer;
 ghost use Rattle.statement.specs.Columns.{column};

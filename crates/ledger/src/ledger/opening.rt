@@ -1,5 +1,5 @@
 //! Opening a ledger.
-ghost use Rattle.std.specs.Prelude.{◌≡◌, ◌<◌, List, [], MatchResult, OnOk};
+ghost use Rattle.std.specs.Prelude.{◌≡◌, List, [], MatchResult, OnOk};
 ghost use Rattle.refusal.specs.Answers.{answer, bare};
 ghost use Rattle.ledger.specs.declared.line.Line.{Line};
 ghost use Rattle.ledger.specs.Standings.{opened, open_rule, no_heads};

@@ -1,5 +1,5 @@
 //! Resettling a month on file.
-ghost use Rattle.std.specs.Prelude.{◌≡◌, ◌-◌, ◌||◌, ◌∷◌, if◌then◌else◌, Some, None, MatchResult};
+ghost use Rattle.std.specs.Prelude.{◌≡◌, ◌-◌, ◌∷◌, if◌then◌else◌, Some, None, MatchResult};
 ghost use Rattle.std.specs.Option.{option_map};
 ghost use Rattle.refusal.specs.Answers.{answer, bare, after};
 ghost use Rattle.ledger.specs.Readings.{reading_of};
