@@ -53,17 +53,17 @@ both (done s) k v e = (s, refl, e)
 both (refused n l p) k v e = absurd (done_refused v n l p e)
 
 -- with memory and month tested, the month's charge decides
-pub bill_told : (a : Accounts) (pools pools' : List ℤ) (b : Reading) (rows : List (List ℕ)) (lines cells count month : ℕ) (t : Told (Unit {0})) → done tt ≡ memory_rule a.members lines cells (13 * a.members) count → count ≡ b.count
+pub bill_told : (a : Accounts) (pools pools' : List ℤ) (b : Reading) (rows : List (List ℕ)) (lines cells month : ℕ) (t : Told (Unit {0})) → done tt ≡ memory_rule a.members lines cells (13 * a.members) b.count
     → month ≡ b.month → month ≡ a.month → rows ≡ rows_read b → 1 ≤ b.count → b.count ≤ 200 → pools ≡ pools' → t ≡ charge_rule pools rows cells → t ≡ bill_check a pools' b lines cells
-bill_told a pools pools' b rows lines cells count month t m ec em o e low high ep h =
+bill_told a pools pools' b rows lines cells month t m em o e low high ep h =
     let ranges = cond (eqb b.month a.month) (ranges_rule pools' (rows_read b)) (refused 5 layer.Ledger 0) in
     let n : length rows ≡ b.count = ap length e ∙ rows_length b.held 0 b.count in
-    let k = memory_passed a.members lines cells (13 * a.members) count m in
-    ranges_left pools rows cells t (omega (arith, n, k.1, k.2, ec)) (omega (arith, n)) (omega (arith, n)) h
+    let k = memory_passed a.members lines cells (13 * a.members) b.count m in
+    ranges_left pools rows cells t (omega (arith, n, k.1, k.2)) (omega (arith, n)) (omega (arith, n)) h
     ∙ ap (ranges_rule pools) e
     ∙ ap (λ (zs : List ℤ). ranges_rule zs (rows_read b)) ep
     ∙ sym (cond-true (eqb b.month a.month) (ranges_rule pools' (rows_read b)) (refused 5 layer.Ledger 0) (eq-eqb b.month a.month (sym em ∙ o)))
-    ∙ ap (λ (x : Told (Unit {0})). next x (λ _. ranges)) (m ∙ ap (memory_rule a.members lines cells (13 * a.members)) ec)
+    ∙ ap (λ (x : Told (Unit {0})). next x (λ _. ranges)) m
 
 pub bill_passed : (a : Accounts) (pools : List ℤ) (b : Reading) (lines cells : ℕ) → 1 ≤ b.count → b.count ≤ 200
     → done tt ≡ bill_check a pools b lines cells → BillPassed a pools b lines cells

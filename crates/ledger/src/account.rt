@@ -1,5 +1,5 @@
 //! The account of one component.
-ghost use Rattle.std.specs.Prelude.{◌≡◌, ◌<◌, ◌≤◌, length, ◌+ℤ◌, unsigned_abs};
+ghost use Rattle.std.specs.Prelude.{◌≡◌, ◌<◌, ◌≤◌, ◌+ℤ◌, unsigned_abs};
 ghost use Rattle.ledger.specs.Billing.{billed_account};
 
 use charges_text::charges::ComponentCharge;

@@ -1,5 +1,5 @@
 //! The thirteen accounts of a ledger.
-ghost use Rattle.std.specs.Prelude.{◌≡◌, ℕ, ◌%◌, ◌<◌, ◌≤◌, length, unsigned_abs};
+ghost use Rattle.std.specs.Prelude.{◌≡◌, ℕ, ◌%◌, ◌≤◌, unsigned_abs};
 ghost use Rattle.tariff.specs.Heads.{sums};
 ghost use Rattle.tariff.specs.Costs.{Bounded};
 ghost use Rattle.ledger.specs.Files.{row_at};
@@ -10,6 +10,14 @@ ghost use Rattle.ledger.specs.Resettling.{settled};
 use crate::account::Account;
 use charges_text::charges::ComponentCharge;
 use statement::component::Component;
+use std::array;
+
+/// The slot of a month on file: six slots, in turn.
+pub(crate) fn slot_of(month: u32) -> usize
+    ensures { result ≡ month % 6 }
+{
+    (month % 6) as usize
+}
 
 /// How many members there are, the first month, the open month, and an account for each component.
 #[derive(Clone, Copy)]
@@ -48,7 +56,7 @@ impl Accounts {
     pub(crate) fn row_start(&self, month: u32, component: Component) -> usize
         ensures { result ≡ row_at self.now.members month component.place }
     {
-        ((month % 6) as usize * 13 + component.place) * self.members as usize
+        (slot_of(month) * 13 + component.place) * self.members as usize
     }
 
     /// The pools of a bill, from the components' costs.
@@ -57,11 +65,7 @@ impl Accounts {
         requires costs { Bounded 12000000000 costs }
         ensures { result ≡ sums costs (balances self.now) }
     {
-        let mut pools = [0i64; 13];
-        for (component, account) in self.rows.iter().enumerate() {
-            pools[component] = account.pool(costs[component]);
-        }
-        pools
+        array::from_fn(|place| self.rows[place].pool(costs[place]))
     }
 
     /// Closes the open month on its charges, and opens the next.
@@ -69,9 +73,9 @@ impl Accounts {
         requires month { self.old.month ≤ 35999 }
         ensures { self.new ≡ closed charges self.old }
     {
-        let slot = (self.month % 6) as usize;
-        for (component, account) in self.rows.iter_mut().enumerate() {
-            account.close(slot, charges[component]);
+        let slot = slot_of(self.month);
+        for (place, account) in self.rows.iter_mut().enumerate() {
+            account.close(slot, charges[place]);
         }
         self.month += 1;
     }

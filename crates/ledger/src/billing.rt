@@ -9,7 +9,6 @@ ghost use Rattle.ledger.specs.Standings.{account_at, balances};
 ghost use Rattle.ledger.specs.Billing.{bill_check, slot_written};
 
 use crate::accounts::Accounts;
-use crate::checks::check_memory;
 use crate::line::Line;
 use crate::rows::write_slot;
 use book::book::Book;
@@ -38,7 +37,7 @@ pub(crate) fn charge_book<R: Rule, B: Book>(
 {
     let members = accounts.members;
     let wanted = 13 * members as usize;
-    check_memory(members, file.len(), statement.len(), wanted, book.members())?;
+    accounts.check_memory(file, statement, wanted, book)?;
     if book.month() != accounts.month {
         return Err(Layer::Ledger.refuses(Refusal::Month));
     }

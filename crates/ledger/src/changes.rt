@@ -1,5 +1,5 @@
 //! What a resettlement changes: new shares less the cents billed to date, and the balance left.
-ghost use Rattle.std.specs.Prelude.{◌≡◌, ℕ, ◌+◌, ◌≤◌, true, ◌&&◌, length, pos, ◌-ℤ◌, if◌then◌else◌, Some, None, sum, OnOk, slice_index_or, unsigned_abs};
+ghost use Rattle.std.specs.Prelude.{◌≡◌, ℕ, ◌+◌, ◌≤◌, true, ◌&&◌, length, pos, ◌-ℤ◌, if◌then◌else◌, Some, None, OnOk, slice_index_or, unsigned_abs};
 ghost use Rattle.cents.specs.Cutting.{sum_z};
 ghost use Rattle.refusal.specs.Answers.{answer, done, refused};
 ghost use Rattle.refusal.specs.declared.Layer.TheVariants as layer;
@@ -55,7 +55,7 @@ fn balance_left(balance: i64, changes: &[i64]) -> Option<i64>
 
 /// The differences of a component, and the balance that they leave.
 pub(crate) fn find_changes(
-    row: Resettlement,
+    given: Resettlement,
     shares: &[i64],
     lines: &[Line],
     out: &mut [i64],
@@ -64,13 +64,13 @@ pub(crate) fn find_changes(
     requires lines { length lines.now ≡ length shares.now }
     requires out { length out.old ≡ length shares.now }
     requires shares { (m : ℕ) → unsigned_abs (slice_index_or shares.now m (pos 0)) ≤ 5000000001 }
-    ensures told { answer result ≡ (if list_all cents_within lines.now && within (balance_left row.balance shares.now lines.now) then done (balance_left row.balance shares.now lines.now) else refused 10 layer.Ledger (row.component.place + 1)) }
+    ensures told { answer result ≡ (if list_all cents_within lines.now && within (balance_left given.balance shares.now lines.now) then done (balance_left given.balance shares.now lines.now) else refused 10 layer.Ledger (given.component.place + 1)) }
     ensures changes { OnOk result (out.new ≡ differences shares.now lines.now) }
 {
-    let fault = Layer::Ledger.refuses_at(Refusal::Resettled, row.component.number());
+    let fault = Layer::Ledger.refuses_at(Refusal::Resettled, given.component.number());
     if !cents_within(lines) {
         return Err(fault);
     }
     write_differences(shares, lines, out);
-    balance_left(row.balance, out).ok_or(fault)
+    balance_left(given.balance, out).ok_or(fault)
 }

@@ -1,28 +1,33 @@
 //! The test that billing and resettling have in common.
-ghost use Rattle.std.specs.Prelude.{◌≡◌};
+ghost use Rattle.std.specs.Prelude.{◌≡◌, length};
 ghost use Rattle.refusal.specs.Answers.{answer};
 ghost use Rattle.ledger.specs.Billing.{memory_rule};
 
+use crate::accounts::Accounts;
+use crate::line::Line;
+use book::book::Book;
 use refusal::{Fault, Layer, Refusal};
 
-/// Tests the lengths of file and statement, and the book's count.
-pub(crate) fn check_memory(
-    members: u32,
-    lines: usize,
-    cells: usize,
-    wanted: usize,
-    count: u32,
-) -> Result<(), Fault>
-    ensures { answer result ≡ memory_rule members lines cells wanted count }
-{
-    if lines != 78 * members as usize {
-        return Err(Layer::Ledger.refuses(Refusal::Length));
+impl Accounts {
+    /// Tests the lengths of file and statement, and the book's count.
+    pub(crate) fn check_memory<B: Book>(
+        &self,
+        file: &[Line],
+        statement: &[i64],
+        wanted: usize,
+        book: &B,
+    ) -> Result<(), Fault>
+        ensures { answer result ≡ memory_rule self.now.members (length file.now) (length statement.now) wanted (B.count book.now) }
+    {
+        if file.len() != 78 * self.members as usize {
+            return Err(Layer::Ledger.refuses(Refusal::Length));
+        }
+        if statement.len() != wanted {
+            return Err(Layer::Ledger.refuses(Refusal::Length));
+        }
+        if book.members() != self.members {
+            return Err(Layer::Ledger.refuses(Refusal::Count));
+        }
+        Ok(())
     }
-    if cells != wanted {
-        return Err(Layer::Ledger.refuses(Refusal::Length));
-    }
-    if count != members {
-        return Err(Layer::Ledger.refuses(Refusal::Count));
-    }
-    Ok(())
 }

@@ -20,7 +20,8 @@ pub struct Ledger<R: Rule> {
     sheet: Sheet,
     heads: Heads,
     accounts: Accounts,
-    // The accounts are plain records, as specs/ writes them: the ledger keeps what is true of them.
+    // The accounts are plain records, as specs/ writes them: the ledger keeps what is true of them,
+    // and a function that takes accounts alone asks for the bound on balances in `requires`.
     ghost peopled: { (1 ≤ accounts.members) × (accounts.members ≤ 200) },
     ghost dated: { (24277 ≤ accounts.first) × (accounts.first ≤ accounts.month) × (accounts.month ≤ 36000) },
     ghost slots: { (c : ℕ) → c < 13 → length (account_at accounts c).pools ≡ 6 },

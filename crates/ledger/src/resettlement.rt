@@ -3,7 +3,7 @@ ghost use Rattle.std.specs.Prelude.{◌≤◌, unsigned_abs};
 
 use statement::component::Component;
 
-/// A component: the month's own pool, which is shared again, and the balance.
+/// What is resettled: a component, its month's own pool, and the balance before.
 #[derive(Clone, Copy)]
 pub(crate) struct Resettlement {
     pub(crate) component: Component,

@@ -1,5 +1,5 @@
 //! What a resettlement reads and writes.
-ghost use Rattle.std.specs.Prelude.{◌≡◌, ◌+◌, ◌*◌, ◌<◌, ◌≤◌, length, if◌then◌else◌, sum, MatchResult, OnOk, nat_le, unsigned_abs};
+ghost use Rattle.std.specs.Prelude.{◌≡◌, ◌+◌, ◌*◌, ◌≤◌, length, if◌then◌else◌, sum, MatchResult, OnOk, nat_le, unsigned_abs};
 ghost use Rattle.refusal.specs.Answers.{answer, done, refused};
 ghost use Rattle.refusal.specs.declared.Layer.TheVariants as layer;
 ghost use Rattle.statement.specs.Columns.{column};
@@ -8,7 +8,7 @@ ghost use Rattle.ledger.specs.Files.{row_at, lines_of, put};
 ghost use Rattle.ledger.specs.Standings.{account_at};
 ghost use Rattle.ledger.specs.Resettling.{differences, lines_at, shares_again, change_rule};
 
-use crate::accounts::Accounts;
+use crate::accounts::{Accounts, slot_of};
 use crate::changes::find_changes;
 use crate::line::Line;
 use crate::resettlement::Resettlement;
@@ -24,6 +24,7 @@ use statement::kind::Kind;
 const MOST_UNITS: u64 = 2_000_000_000;
 
 /// Reads the units of a kind, member by member.
+// Here and below slices are lent, so `requires` has their lengths: they are tested once, before.
 fn read_kind<B: Book>(book: &B, kind: Kind, out: &mut [u32]) -> Result<(), Fault>
     requires { length out.old ≡ B.count book.now }
     ensures told { answer result ≡ done tt }
@@ -35,7 +36,7 @@ fn read_kind<B: Book>(book: &B, kind: Kind, out: &mut [u32]) -> Result<(), Fault
     Ok(())
 }
 
-/// Reads the units of a component and shares its pool by them.
+/// Reads the units of a kind and shares a pool by them.
 fn share_again<R: Rule, B: Book>(
     rule: &R,
     pool: i64,
@@ -60,15 +61,15 @@ fn share_again<R: Rule, B: Book>(
 /// Resettles one row of lines, and tells the balance that is left; refused, lines and cells stay.
 fn resettle_row<R: Rule, B: Book>(
     rule: &R,
-    row: Resettlement,
+    given: Resettlement,
     book: &B,
     lines: &mut [Line],
     cells: &mut [i64],
 ) -> Result<i64, Fault>
     requires lines { length lines.old ≡ B.count book.now }
     requires cells { length cells.old ≡ B.count book.now }
-    ensures told { answer result ≡ change_rule (row.component.place + 1) (units_read (reading_of B.Book book.now) row.component.place) (R.shares rule.now row.pool (units_read (reading_of B.Book book.now) row.component.place)) row.balance lines.old }
-    ensures done { MatchResult result (λ _. (lines.new ≡ lines_of (units_read (reading_of B.Book book.now) row.component.place) (R.shares rule.now row.pool (units_read (reading_of B.Book book.now) row.component.place))) × (cells.new ≡ differences (R.shares rule.now row.pool (units_read (reading_of B.Book book.now) row.component.place)) lines.old)) (λ _. (lines.new ≡ lines.old) × (cells.new ≡ cells.old)) }
+    ensures told { answer result ≡ change_rule (given.component.place + 1) (units_read (reading_of B.Book book.now) given.component.place) (R.shares rule.now given.pool (units_read (reading_of B.Book book.now) given.component.place)) given.balance lines.old }
+    ensures done { MatchResult result (λ _. (lines.new ≡ lines_of (units_read (reading_of B.Book book.now) given.component.place) (R.shares rule.now given.pool (units_read (reading_of B.Book book.now) given.component.place))) × (cells.new ≡ differences (R.shares rule.now given.pool (units_read (reading_of B.Book book.now) given.component.place)) lines.old)) (λ _. (lines.new ≡ lines.old) × (cells.new ≡ cells.old)) }
 {
     let members = cells.len();
     // No heap: memory for the 200 members at most.
@@ -78,8 +79,8 @@ fn resettle_row<R: Rule, B: Book>(
     let fresh = &mut fresh[..members];
     let mut changes = [0i64; 200];
     let changes = &mut changes[..members];
-    share_again(rule, row.pool, row.component.kind(), book, units, fresh)?;
-    let left = find_changes(row, fresh, lines, changes)?;
+    share_again(rule, given.pool, given.component.kind(), book, units, fresh)?;
+    let left = find_changes(given, fresh, lines, changes)?;
     cells.copy_from_slice(changes);
     write_lines(|i| units[i], fresh, lines);
     Ok(left)
@@ -104,12 +105,12 @@ pub(crate) fn resettle_lines<R: Rule, B: Book>(
 {
     let month = book.month();
     let account = accounts.rows[component.place];
-    let row = Resettlement {
+    let given = Resettlement {
         component,
-        pool: account.pools[(month % 6) as usize],
+        pool: account.pools[slot_of(month)],
         balance: account.balance,
     };
     let start = accounts.row_start(month, component);
     let end = start + accounts.members as usize;
-    resettle_row(rule, row, book, &mut file[start..end], statement)
+    resettle_row(rule, given, book, &mut file[start..end], statement)
 }

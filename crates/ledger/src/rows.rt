@@ -6,6 +6,7 @@ use crate::line::Line;
 use statement::component::Component;
 
 /// Writes lines of units and cents, where a function tells the units of each place.
+// A function of the place, so that no column is copied.
 pub(crate) fn write_lines<F: Fn(usize) -> u32>(units: F, cents: &[i64], lines: &mut [Line])
     requires units { (i : ℕ) → i < length cents.now → F.pre units i }
     requires lines { length lines.old ≡ length cents.now }

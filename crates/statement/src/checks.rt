@@ -43,10 +43,11 @@ impl<'a> TestedMonth<'a> {
     }
 }
 
-/// Refuses the lowest kind whose total is too large. The kinds are counted, as no list has them.
+/// Refuses the lowest kind whose total is too large.
 fn check_totals(units: &Usage<'_>) -> Result<(), Fault>
     ensures { answer result ≡ totals_rule units.now.rows.now 0 7 }
 {
+    // The kinds have no list: a place makes each.
     for place in 0..7 {
         let kind = Kind { place };
         if units.total(kind) > MOST_UNITS {

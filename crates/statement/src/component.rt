@@ -11,6 +11,7 @@ use charges_text::charges::ComponentCharge;
 use sharing::rule::Rule;
 
 /// The place of the kind that the component at a place is charged by.
+// Public for any place, as callers may ask; `Component` has the range in its type.
 pub fn kind_of(component: usize) -> usize
     ensures value { result ≡ kind_of component }
     ensures below { component < 13 → result < 7 }

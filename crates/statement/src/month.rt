@@ -51,13 +51,12 @@ pub fn charge_month<R: Rule>(
     Ok(month.charge(rule, statement))
 }
 
-/// What a member pays for the component at a place; 0 where the statement has no such cell.
-fn cell(statement: &[i64], place: usize, member: usize) -> i64
-    requires { place < 13 }
-    ensures { result ≡ slice_index_or statement.now (place * (length statement.now / 13) + member) (pos 0) }
+/// What a member pays for a component; 0 where the statement has no such cell.
+fn cell(statement: &[i64], component: Component, member: usize) -> i64
+    ensures { result ≡ slice_index_or statement.now (component.place * (length statement.now / 13) + member) (pos 0) }
 {
     let members = statement.len() / 13;
-    let cells = &statement[place * members..];
+    let cells = &statement[component.place * members..];
     cells.get(member).copied().unwrap_or(0)
 }
 
@@ -65,5 +64,9 @@ fn cell(statement: &[i64], place: usize, member: usize) -> i64
 pub fn member_charges(statement: &[i64], member: usize) -> [i64; 13]
     ensures { result ≡ member_charges statement.now member }
 {
-    array::from_fn(|place| cell(statement, place, member))
+    array::from_fn(
+        |place|
+            requires { place < 13 }
+        { cell(statement, Component { place }, member) },
+    )
 }

@@ -1,5 +1,5 @@
 //! Opening a ledger.
-ghost use Rattle.std.specs.Prelude.{◌≡◌, ◌<◌, List, [], MatchResult, OnOk};
+ghost use Rattle.std.specs.Prelude.{◌≡◌, List, [], MatchResult, OnOk};
 ghost use Rattle.refusal.specs.Answers.{answer, bare};
 ghost use Rattle.ledger.specs.declared.line.Line.{Line};
 ghost use Rattle.ledger.specs.Standings.{opened, open_rule, no_heads};
@@ -33,10 +33,10 @@ impl<R: Rule + Drop> Ledger<R> {
         ensures after { MatchResult result (λ _. (self.new.rule ≡ rule) × (self.new.sheet ≡ sheet) × (self.new.heads.amounts ≡ no_heads) × (self.new.accounts ≡ opened members first)) (λ _. self.new ≡ self.old) }
         ensures law { OnOk result ((file : List Line) → Kept (terms_of R.shares R.STEP self.new) [] (standing_of self.new file)) }
     {
-        if members < 1 || members > 200 {
+        if !(1..=200).contains(&members) {
             return Err(Layer::Ledger.refuses(Refusal::Count));
         }
-        if first < 24_277 || first > 35_999 {
+        if !(24_277..=35_999).contains(&first) {
             return Err(Layer::Ledger.refuses(Refusal::Month));
         }
         self.rule = rule;

@@ -1,5 +1,5 @@
 //! Resettling a month on file.
-ghost use Rattle.std.specs.Prelude.{◌≡◌, ◌-◌, ◌||◌, ◌∷◌, if◌then◌else◌, Some, None, MatchResult};
+ghost use Rattle.std.specs.Prelude.{◌≡◌, ◌-◌, ◌∷◌, if◌then◌else◌, Some, None, MatchResult};
 ghost use Rattle.std.specs.Option.{option_map};
 ghost use Rattle.refusal.specs.Answers.{answer, bare, after};
 ghost use Rattle.ledger.specs.Readings.{reading_of};
@@ -8,7 +8,6 @@ ghost use Rattle.ledger.specs.Histories.{History, resettled};
 ghost use Rattle.ledger.specs.Kept.{Kept};
 ghost use Rattle.ledger.specs.Ledgers.{resettling_of, standing_of, terms_of};
 
-use crate::checks::check_memory;
 use crate::ledger::Ledger;
 use crate::line::Line;
 use crate::resettling::resettle_lines;
@@ -48,14 +47,8 @@ impl<R: Rule> Ledger<R> {
         let Some(component) = reconciled(component) else {
             return Err(Layer::Ledger.refuses(Refusal::Kind));
         };
-        let members = self.accounts.members;
-        check_memory(
-            members,
-            file.len(),
-            statement.len(),
-            members as usize,
-            book.members(),
-        )?;
+        let wanted = self.accounts.members as usize;
+        self.accounts.check_memory(file, statement, wanted, book)?;
         if !self.accounts.is_on_file(book.month()) {
             return Err(Layer::Ledger.refuses(Refusal::Month));
         }

@@ -10,10 +10,10 @@ returns-in_err-charges-clause-told g c =
     let p = err_from_is_err_and c.from_residual-in_err-charges.result c.from_residual-in_err-charges.ensures.1 in
     let book = c.args.book.now in
     let few = g.met.B.Book.peopled book in
-    rw (p.1, p.2) (bill_told c.args.accounts.now _ (sums c.args.costs (balances c.args.accounts.now)) (reading_of g.B.Book book) _ _ _ _ _ _ c.in_ok-check_memory.ensures c.members.ensures c.month.ensures c.if-month-accounts.false c.in_ok-read_book.ensures.after few.0 few.1 c.pools-pools.ensures c.in_err-charges.ensures.told)
+    rw (p.1, p.2) (bill_told c.args.accounts.now _ (sums c.args.costs (balances c.args.accounts.now)) (reading_of g.B.Book book) _ _ _ _ _ c.in_ok-check_memory.ensures c.month.ensures c.if-month-accounts.false c.in_ok-read_book.ensures.after few.0 few.1 c.pools-pools.ensures c.in_err-charges.ensures.told)
 
 pub returns-clause-told : goal.returns-clause-told
 returns-clause-told g c =
     let book = c.args.book.now in
     let few = g.met.B.Book.peopled book in
-    bill_told c.args.accounts.now _ (sums c.args.costs (balances c.args.accounts.now)) (reading_of g.B.Book book) _ _ _ _ _ _ c.in_ok-check_memory.ensures c.members.ensures c.month.ensures c.if-month-accounts.false c.in_ok-read_book.ensures.after few.0 few.1 c.pools-pools.ensures c.in_ok-charges.ensures.told
+    bill_told c.args.accounts.now _ (sums c.args.costs (balances c.args.accounts.now)) (reading_of g.B.Book book) _ _ _ _ _ c.in_ok-check_memory.ensures c.month.ensures c.if-month-accounts.false c.in_ok-read_book.ensures.after few.0 few.1 c.pools-pools.ensures c.in_ok-charges.ensures.told

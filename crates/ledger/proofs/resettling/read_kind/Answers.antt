@@ -1,4 +1,4 @@
-use Rattle.std.proofs.Common.{◌+◌, ap, sym, ◌∙◌, arith}
+use Rattle.std.proofs.Common.{ap, sym, ◌∙◌, arith}
 use Rattle.statement.specs.Columns.{column}
 use Rattle.statement.specs.Readings.{book_rows}
 use Rattle.ledger.proofs.Overwritten.{front_more, front_end}

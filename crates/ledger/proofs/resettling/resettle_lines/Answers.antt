@@ -12,12 +12,11 @@ returns g c =
     let book = c.args.book.now in
     let b = reading_of g.B.Book book in
     let i = c.args.component.place in
-    let month = c.month-month.result in
     let start = c.row_start-start.result in
     let k = start + a.members - start in
     let sh = g.R.Rule.shares c.args.rule.now in
     let em = c.month-month.ensures in
-    let ep = to_z-of_z w64 (get_or (account_at a i).pools (month % 6) (pos 0)) (search rules) ∙ ap (λ m. get_or (account_at a i).pools (m % 6) (pos 0)) em in
+    let ep = to_z-of_z w64 (get_or (account_at a i).pools c.slot_of.result (pos 0)) (search rules) ∙ ap (λ m. get_or (account_at a i).pools m (pos 0)) c.slot_of.ensures ∙ ap (λ m. get_or (account_at a i).pools (m % 6) (pos 0)) em in
     let eb = to_z-of_z w64 (account_at a i).balance (search rules) in
     let es = c.row_start-start.ensures ∙ ap (λ m. row_at a.members m i) em in
     record {

@@ -17,11 +17,11 @@ find_changes-requires-clause-shares g c =
 pub returns-in_err-left-clause-told : goal.returns-in_err-left-clause-told
 returns-in_err-left-clause-told g c =
     let p = err_from_is_err_and c.from_residual-in_err-left.result c.from_residual-in_err-left.ensures.1 in
-    let row = c.args.row in
+    let given = c.args.given in
     let rows = rows_read (reading_of g.B.Book c.args.book.now) in
     let sh = g.R.Rule.shares c.args.rule.now in
     let e = c.kind.ensures in
-    let z = to_z-of_z w64 row.pool (search rules) in
-    let q : c.share_again.new.fresh ≡ sh row.pool (column rows (kind_of row.component.place)) = c.in_ok-share_again.ensures.shared.1 ∙ rw (z, e) refl in
+    let z = to_z-of_z w64 given.pool (search rules) in
+    let q : c.share_again.new.fresh ≡ sh given.pool (column rows (kind_of given.component.place)) = c.in_ok-share_again.ensures.shared.1 ∙ rw (z, e) refl in
     let t = c.in_err-left.ensures.told in
-    rw (p.1, p.2) (change_told row.component.place c.kind.result.place rows (sh row.pool (column rows (kind_of row.component.place))) row.balance c.args.lines.now _ e c.in_ok-share_again.ensures.told (rw q at t))
+    rw (p.1, p.2) (change_told given.component.place c.kind.result.place rows (sh given.pool (column rows (kind_of given.component.place))) given.balance c.args.lines.now _ e c.in_ok-share_again.ensures.told (rw q at t))

@@ -1,28 +1,17 @@
-use Rattle.std.proofs.Common.{◌≡◌, length, get_or, ℤ, pos, ◌+ℤ◌, sym, ap, ◌∙◌, arith, w64, rules}
-use Rattle.std.proofs.lemmas.List.{length-set}
+use Rattle.std.proofs.Common.{◌≡◌, ℕ, length, get_or, pos, ◌+ℤ◌, sym, ◌∙◌, arith, w64, rules}
+use Rattle.std.proofs.lemmas.List.{ext_get_or}
 use Rattle.std.proofs.lemmas.Int.{to_z-of_z}
 use Rattle.tariff.specs.Heads.{sums}
+use Rattle.statement.proofs.FromFn.{made_from}
 use Rattle.ledger.specs.Standings.{balances, account_at}
-use Rattle.ledger.proofs.Overwritten.{front_more, front_end}
 use Rattle.ledger.proofs.Closed.{pool_at, pools_length}
 use Rattle.ledger.proofs.accounts.Accounts.pools.Goals as goal
-
-pub loop-component-preserved : goal.loop-component-preserved
-loop-component-preserved c =
-    let costs = c.args.costs in
-    let s = c.args.self.now in
-    let i = c.loop-component.component in
-    let e : length costs ≡ length s.rows = search rules in
-    let z = to_z-of_z w64 (get_or costs i (pos 0)) (search rules) in
-    let p = to_z-of_z w64 c.pool.result (record { sfits = c.pool.type_inv }) in (
-      simp length-set c.loop-component.invariant.0,
-      front_more (pos 0) (sums costs (balances s)) c.loop-component.pools i _ (omega (arith, pools_length costs s e)) (omega arith)
-          (p ∙ c.pool.ensures ∙ ap (λ (x : ℤ). x +ℤ (account_at s i).balance) z ∙ sym (pool_at costs s i e (omega arith))) c.loop-component.invariant.1,
-    )
 
 pub returns : goal.returns
 returns c =
     let costs = c.args.costs in
     let s = c.args.self.now in
     let e : length costs ≡ length s.rows = search rules in
-    front_end (pos 0) (sums costs (balances s)) c.loop-component.pools c.loop-component.component (omega (arith, pools_length costs s e)) (omega arith) c.loop-component.invariant.1
+    let f = λ (k : ℕ). get_or costs k (pos 0) +ℤ (account_at s k).balance in
+    ext_get_or (pos 0) c.from_fn.result (sums costs (balances s)) (omega (arith, c.from_fn.ensures.items.long, pools_length costs s e))
+    (λ k below. made_from _ _ _ f (pos 0) (λ j y q called. (search rules, let z = to_z-of_z w64 (get_or costs j (pos 0)) (search rules) in search (rules, z))) 13 0 c.from_fn.ensures.items.each k (omega arith) (omega (arith, c.from_fn.ensures.items.long)) ∙ sym (pool_at costs s k e (omega (arith, c.from_fn.ensures.items.long))))

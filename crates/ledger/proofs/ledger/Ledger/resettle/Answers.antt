@@ -50,7 +50,7 @@ returns-clause-law g c =
     let k = cond_some (reconciled component) i c.in-Some.component.place c.in-Some.ensures in
     let r = k.0 in
     let p = reconciled_place component r in
-    let m : done tt ≡ memory_rule a.members (length file) (length memory) a.members b.count = c.in_ok-check_memory.ensures ∙ ap (memory_rule a.members (length file) (length memory) a.members) c.members.ensures in
+    let m : done tt ≡ memory_rule a.members (length file) (length memory) a.members b.count = c.in_ok-check_memory.ensures in
     let o : is_on_file a b.month ≡ true = sym (c.if-not-is_on_file.ensures ∙ ap (is_on_file a) c.month.ensures) in
     let rule : LawfulRule (terms_of g.R.Rule.shares g.R.Rule.STEP self) = record { stepped = g.met.R.Rule.stepped; long = g.met.R.Rule.long self.rule; idle = g.met.R.Rule.idle self.rule; fair = g.met.R.Rule.fair self.rule } in
     let change : ℕ → Told ℤ = λ n. change_rule n (units_read b i) (shares_again sh a b i) (account_at a i).balance (lines_at a file b i) in
