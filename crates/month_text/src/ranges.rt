@@ -54,6 +54,7 @@ fn all_bounded<const K: usize>(xs: [i64; K], most: u64) -> bool
 }
 
 /// A line of `K` numbers from `low` to `high`, and the text after it.
+// Not one function with `amounts`: a closure's bound that names `K`, as the test's would, is not covered yet.
 // The text and its line number are two: a cursor would have to count up to the number.
 pub(crate) fn row<'a, const K: usize>(
     key: &[u8],
