@@ -14,6 +14,8 @@ use Rattle.bottom_books.proofs.Small.{parted}
 use Rattle.statement.specs.Readings.{book_row, book_rows}
 use Rattle.month_text.specs.declared.month.Member.{Member}
 use Rattle.month_text.specs.declared.month.Month.{Month}
+use Rattle.charges_text.specs.declared.charges.MemberCharge.{MemberCharge}
+use Rattle.statement.specs.Charges.{member_charges}
 use Rattle.month_bill.specs.Members.{facts_of_all, units_rule, month_units, member_rows}
 
 -- a month's units are told by the table of its facts
@@ -65,3 +67,15 @@ pub rows_take : (statement : List ℤ) (i n : ℕ) (members : List Member) → t
 rows_take statement i zero members = refl
 rows_take statement i (suc n) [] = refl
 rows_take statement i (suc n) (m ∷ members) = rw (rows_take statement (i + 1) n members)
+
+-- as many rows as members
+pub rows_length : (statement : List ℤ) (i : ℕ) (members : List Member) → length (member_rows statement i members) ≡ length members
+rows_length statement i [] = refl
+rows_length statement i (m ∷ members) = rw (rows_length statement (i + 1) members)
+
+-- the row at a place
+pub row_at : (statement : List ℤ) (i j : ℕ) (members : List Member) (d : MemberCharge) (b : Member) → j < length members
+    → get_or (member_rows statement i members) j d ≡ record { account = (get_or members j b).account; charges = member_charges statement (i + j) }
+row_at statement i j [] d b l = absurd (omega arith)
+row_at statement i zero (m ∷ members) d b l = let e : i + 0 ≡ i = omega arith in rw e refl
+row_at statement i (suc j) (m ∷ members) d b l = let e : i + suc j ≡ i + 1 + j = omega arith in rw e (row_at statement (i + 1) j members d b (omega arith))

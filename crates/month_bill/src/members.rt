@@ -9,6 +9,7 @@ use month_text::month::{Member, Month};
 use refusal::{Fault, Layer, Refusal};
 use statement::month::member_charges;
 use statement::reading::read_book;
+use std::array;
 use units::facts::Facts;
 
 /// The facts of all members.
@@ -47,15 +48,8 @@ pub(crate) fn member_units(month: &Month) -> Result<[[u32; 7]; 32], Fault>
 pub fn member_rows(members: [Member; 32], statement: &[i64]) -> [MemberCharge; 32]
     ensures { result ≡ member_rows statement.now 0 members }
 {
-    let blank = MemberCharge {
-        account: 0,
-        charges: [0; 13],
-    };
-    let mut rows = [blank; 32];
-    for (i, member) in members.iter().enumerate() {
-        let account = member.account;
-        let charges = member_charges(statement, i);
-        rows[i] = MemberCharge { account, charges };
-    }
-    rows
+    array::from_fn(|i| MemberCharge {
+        account: members[i].account,
+        charges: member_charges(statement, i),
+    })
 }

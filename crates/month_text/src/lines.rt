@@ -6,7 +6,7 @@ ghost use Rattle.month_text.specs.Lines.{past, fields_at, line_at};
 use crate::numbers::integer;
 
 /// The text after `word`, where it begins with it.
-// `strip_prefix` by slice patterns, in which this reader takes each line apart.
+// Not `strip_prefix`: slice patterns are asked of this reader, which takes each line apart by them.
 #[tactic(auto, using(crate::proofs::Steps::word_steps))]
 pub(crate) fn after_word<'a>(word: &[u8], s: &'a [u8]) -> Option<&'a [u8]>
     ensures { option_map (λ t. t.now) result ≡ past word.now s.now }
@@ -36,6 +36,7 @@ fn fields<'a, const K: usize>(signs: bool, s: &'a [u8]) -> Option<([i64; K], &'a
 }
 
 /// A whole line of `K` numbers behind its key.
+// `signs` is the definition's own Bool: a line has signs or has none.
 pub(crate) fn line<'a, const K: usize>(
     key: &[u8],
     signs: bool,

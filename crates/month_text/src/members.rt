@@ -19,13 +19,13 @@ fn blank() -> Member
 }
 
 /// One member's line, and the text after it.
-fn member_line(place: u32, last: u32, s: &[u8]) -> Result<(Member, &[u8]), Fault>
-    ensures { answer_by (λ p. (p.0, p.1.now)) result ≡ member_at place last s.now }
+fn member_line(line_number: u32, last: u32, s: &[u8]) -> Result<(Member, &[u8]), Fault>
+    ensures { answer_by (λ p. (p.0, p.1.now)) result ≡ member_at line_number last s.now }
 {
-    let (numbers, rest) = row(b"user", 0, 100_000_000, place, s)?;
+    let (numbers, rest) = row(b"user", 0, 100_000_000, line_number, s)?;
     let member = Member::from(numbers);
     if !member.follows(last) {
-        return Err(out_of_range(place));
+        return Err(out_of_range(line_number));
     }
     Ok((member, rest))
 }

@@ -9,24 +9,22 @@ use crate::lines::line;
 use cents::weights::adds_up;
 use refusal::{Fault, Layer, Refusal};
 
-// `low` and `high` are two numbers: a `RangeInclusive` also says whether it is used up, which each clause would rule out.
-// `place` and `s` are two as well: the places are literals in the reader, and a cursor would have to count up to them.
-
 /// The fault of a line that does not have the form that it must have.
-pub(crate) fn off_layout(place: u32) -> Fault
-    ensures { result ≡ record { refusal = Refusal.Layout; layer = Layer.Text; place = place } }
+pub(crate) fn off_layout(line_number: u32) -> Fault
+    ensures { result ≡ record { refusal = Refusal.Layout; layer = Layer.Text; place = line_number } }
 {
-    Layer::Text.refuses_at(Refusal::Layout, place)
+    Layer::Text.refuses_at(Refusal::Layout, line_number)
 }
 
 /// The fault of a line that has a number outside its range.
-pub(crate) fn out_of_range(place: u32) -> Fault
-    ensures { result ≡ record { refusal = Refusal.Range; layer = Layer.Text; place = place } }
+pub(crate) fn out_of_range(line_number: u32) -> Fault
+    ensures { result ≡ record { refusal = Refusal.Range; layer = Layer.Text; place = line_number } }
 {
-    Layer::Text.refuses_at(Refusal::Range, place)
+    Layer::Text.refuses_at(Refusal::Range, line_number)
 }
 
 /// The number without a sign, where it lies from `low` to `high`.
+// Two numbers and no `RangeInclusive`: that one also says whether it is used up.
 fn natural(x: i64, low: u32, high: u32) -> Option<u32>
     ensures value { result ≡ natural_in low high x }
     ensures range { IfSome result (λ n. (low ≤ n) × (n ≤ high)) }
@@ -41,6 +39,7 @@ fn naturals<const K: usize>(xs: [i64; K], low: u32, high: u32) -> Option<[u32; K
     ensures range { IfSome result (λ ns. EachTo high ns) }
 {
     let mut numbers = [0u32; K];
+    // Not `array::try_from_fn`: it does not tell which element failed, as the clause needs.
     for (i, x) in xs.iter().enumerate() {
         numbers[i] = natural(*x, low, high)?;
     }
@@ -55,23 +54,26 @@ fn all_bounded<const K: usize>(xs: [i64; K], most: u64) -> bool
 }
 
 /// A line of `K` numbers from `low` to `high`, and the text after it.
+// Not one function with `amounts`: a closure's bound that names `K`, as the test's would, is not covered yet.
+// The text and its line number are two: a cursor would have to count up to the number.
 pub(crate) fn row<'a, const K: usize>(
     key: &[u8],
     low: u32,
     high: u32,
-    place: u32,
+    line_number: u32,
     s: &'a [u8],
 ) -> Result<([u32; K], &'a [u8]), Fault>
     requires { K < 2 ^ 16 }
-    ensures value { answer_by (λ p. (p.0, p.1.now)) result ≡ row_at key.now K low high place s.now }
+    ensures value { answer_by (λ p. (p.0, p.1.now)) result ≡ row_at key.now K low high line_number s.now }
     ensures range { IfOk result (λ p. EachTo high p.0) }
 {
+    // Here, in `amounts` and in `weights`: `?` at `K` numbers beside a text is not covered yet.
     let Some(read) = line::<K>(key, false, s) else {
-        return Err(off_layout(place));
+        return Err(off_layout(line_number));
     };
     let (read, rest) = read;
     let Some(numbers) = naturals(read, low, high) else {
-        return Err(out_of_range(place));
+        return Err(out_of_range(line_number));
     };
     Ok((numbers, rest))
 }
@@ -81,13 +83,13 @@ pub(crate) fn number_line<'a>(
     key: &[u8],
     low: u32,
     high: u32,
-    place: u32,
+    line_number: u32,
     s: &'a [u8],
 ) -> Result<(u32, &'a [u8]), Fault>
-    ensures value { answer_by (λ p. (p.0, p.1.now)) result ≡ number_at_line key.now low high place s.now }
+    ensures value { answer_by (λ p. (p.0, p.1.now)) result ≡ number_at_line key.now low high line_number s.now }
     ensures range { IfOk result (λ p. (low ≤ p.0) × (p.0 ≤ high)) }
 {
-    let ([number], rest) = row::<1>(key, low, high, place, s)?;
+    let ([number], rest) = row::<1>(key, low, high, line_number, s)?;
     Ok((number, rest))
 }
 
@@ -95,18 +97,18 @@ pub(crate) fn number_line<'a>(
 pub(crate) fn amounts<'a, const K: usize>(
     key: &[u8],
     most: u64,
-    place: u32,
+    line_number: u32,
     s: &'a [u8],
 ) -> Result<([i64; K], &'a [u8]), Fault>
-    ensures value { answer_by (λ p. (p.0, p.1.now)) result ≡ amounts_at key.now K most place s.now }
+    ensures value { answer_by (λ p. (p.0, p.1.now)) result ≡ amounts_at key.now K most line_number s.now }
     ensures range { IfOk result (λ p. EachWithin most p.0) }
 {
     let Some(read) = line::<K>(key, true, s) else {
-        return Err(off_layout(place));
+        return Err(off_layout(line_number));
     };
     let (amounts, rest) = read;
     if !all_bounded(amounts, most) {
-        return Err(out_of_range(place));
+        return Err(out_of_range(line_number));
     }
     Ok((amounts, rest))
 }
@@ -114,21 +116,20 @@ pub(crate) fn amounts<'a, const K: usize>(
 /// A line of `K` thousandths that add up to 1,000, and the text after it.
 pub(crate) fn weights<'a, const K: usize>(
     key: &[u8],
-    place: u32,
+    line_number: u32,
     s: &'a [u8],
 ) -> Result<([u32; K], &'a [u8]), Fault>
     requires { K < 2 ^ 16 }
-    ensures value { answer_by (λ p. (p.0, p.1.now)) result ≡ weights_at key.now K place s.now }
+    ensures value { answer_by (λ p. (p.0, p.1.now)) result ≡ weights_at key.now K line_number s.now }
     ensures range { IfOk result (λ p. EachTo 1000 p.0) }
     ensures whole { IfOk result (λ p. sum p.0 ≡ 1000) }
 {
-    // `?` at a row of `K` numbers beside a text is not covered yet, so the `match` is written out.
-    let (weights, rest) = match row::<K>(key, 0, 1000, place, s) {
+    let (weights, rest) = match row::<K>(key, 0, 1000, line_number, s) {
         Ok(read) => read,
         Err(fault) => return Err(fault),
     };
     if !adds_up(weights, 1000) {
-        return Err(Layer::Sheet.refuses_at(Refusal::Weights, place));
+        return Err(Layer::Sheet.refuses_at(Refusal::Weights, line_number));
     }
     Ok((weights, rest))
 }

@@ -42,11 +42,11 @@ impl Sheet {
         // Four calls and not a loop: settlement, the fifth, has no management part.
         let parts = Parts::cut(self, heads);
         [
-            parts.service(heads, 0),
-            parts.service(heads, 1),
-            parts.service(heads, 2),
-            parts.service(heads, 3),
-            parts.settlement(heads),
+            parts.service(0),
+            parts.service(1),
+            parts.service(2),
+            parts.service(3),
+            parts.settlement(),
         ]
     }
 

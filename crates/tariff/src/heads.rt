@@ -31,6 +31,7 @@ pub fn add_to_head(held: i64, amount: i64) -> Option<i64>
 fn summed(mut heads: [i64; 6], amounts: [i64; 6]) -> Option<[i64; 6]>
     ensures { result ≡ (if all_pass within (sums heads amounts) then Some (sums heads amounts) else None) }
 {
+    // Not `array::try_from_fn`: it does not tell which element failed, as the clause needs.
     for (i, amount) in amounts.iter().enumerate() {
         heads[i] = add_to_head(heads[i], *amount)?;
     }

@@ -1,5 +1,5 @@
 //! A tariff sheet: how division cost, management cost and the two split schedules are divided.
-ghost use Rattle.std.specs.Prelude.{◌≡◌, true, [], ◌∷◌, length, sum, MatchResult};
+ghost use Rattle.std.specs.Prelude.{◌≡◌, true, [], ◌∷◌, sum, MatchResult};
 ghost use Rattle.refusal.specs.Answers.{answer};
 ghost use Rattle.tariff.specs.Sheets.{thousandths, sheet_rule};
 
