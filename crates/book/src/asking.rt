@@ -1,5 +1,5 @@
 //! The tests of an ask and of a correction, alike for every book.
-ghost use Rattle.std.specs.Prelude.{◌≡◌, ◌≤◌, ◌||◌, IfOk};
+ghost use Rattle.std.specs.Prelude.{◌≡◌, ◌≤◌, IfOk};
 ghost use Rattle.refusal.specs.Answers.{answer};
 ghost use Rattle.book.specs.Asking.{pair_rule};
 ghost use Rattle.book.specs.Correcting.{new_units_rule, sum_rule};

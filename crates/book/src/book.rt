@@ -24,7 +24,8 @@ pub trait Book {
     fn members(&self) -> u32
         ensures { result ≡ count self.now };
 
-    // Kind and member stay two plain numbers: offices hand them in untested, refusals 6 and 7 test them.
+    // Kind and member are two plain numbers, handed in untested: refusal 6 tests the one, then 7 the
+    // other, so neither a Kind nor a pair of both stands before that.
     /// The units of a kind, 1 to 7, and a member.
     fn units(&self, kind: u32, member: u32) -> Result<u32, Fault>
         ensures { answer result ≡ ask_rule (count self.now) (held self.now kind member) kind member };

@@ -17,8 +17,8 @@ fn show<B: Book>(rt: &HostRuntime, name: &str, book: &B, kind: u32, member: u32)
     match book.units(kind, member) {
         Ok(units) => println!(rt; "{name} {kind},{member}: {units}"),
         Err(fault) => {
-            let number = fault.refusal.number();
-            println!(rt; "{name} {kind},{member}: refused {number}")
+            let refusal = fault.refusal;
+            println!(rt; "{name} {kind},{member}: refused {refusal}")
         }
     }
 }
@@ -29,8 +29,8 @@ fn told(rt: &HostRuntime, name: &str, answer: Result<(), Fault>) -> io::Result<(
     match answer {
         Ok(()) => println!(rt; "{name}: accepted"),
         Err(fault) => {
-            let number = fault.refusal.number();
-            println!(rt; "{name}: refused {number}")
+            let refusal = fault.refusal;
+            println!(rt; "{name}: refused {refusal}")
         }
     }
 }

@@ -27,8 +27,7 @@ impl Measure<Facts> for FactUnits {
 /// A month's units, as the members' facts make them.
 pub type FactBook = HeldBook<FactUnits>;
 
-// The table book has the like of this, with its own form's only value; one method for both would
-// need a trait that makes that value, which is longer than the two calls.
+// The table book has the like: one generic `fill` reads by `M::default()`, which no clause can name.
 impl HeldBook<FactUnits> {
     /// Makes the book of a month from its members' facts; refused, it stays as it was.
     pub fn fill(&mut self, month: u32, facts: &[Facts]) -> Result<(), Fault>

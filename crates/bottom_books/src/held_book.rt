@@ -8,7 +8,8 @@ use book::book::Book;
 use refusal::Fault;
 use std::marker::PhantomData;
 
-/// A month's units, as rows of the form M make them.
+/// A month's units, as rows of the form M make them. M only tells the forms apart: a book made from
+/// a table takes corrections.
 #[derive(Clone, Copy)]
 pub struct HeldBook<M> {
     pub(crate) units: UnitTable,

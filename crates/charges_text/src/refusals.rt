@@ -21,7 +21,7 @@ fn line_of(fault: Fault) -> u32
 pub fn refusal_text(heap: Global, fault: Fault) -> Result<String, AllocError>
     ensures { IfOk result (λ t. string_bytes t ≡ refusal_line (number fault.refusal) fault.layer fault.place) }
 {
-    let number = fault.refusal.number();
+    let refusal = fault.refusal;
     let line = line_of(fault);
-    format!(in heap; "refused={number},{line}\n")
+    format!(in heap; "refused={refusal},{line}\n")
 }

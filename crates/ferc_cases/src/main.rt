@@ -13,8 +13,8 @@ fn told(rt: &HostRuntime, name: &str, answer: Result<(), Fault>) -> io::Result<(
     match answer {
         Ok(()) => println!(rt; "{name}: accepted"),
         Err(fault) => {
-            let number = fault.refusal.number();
-            println!(rt; "{name}: refused {number}")
+            let refusal = fault.refusal;
+            println!(rt; "{name}: refused {refusal}")
         }
     }
 }

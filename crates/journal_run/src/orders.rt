@@ -6,7 +6,7 @@ use month_bill::members::month_book;
 use runs::order::{Costs, Order};
 use std::alloc::Global;
 
-/// How many orders an entry gives.
+/// How many orders an entry gives; it must agree with `give_orders`.
 pub(crate) fn order_count(entry: &Entry) -> usize {
     match entry.action {
         Action::Bill => 2,

@@ -45,7 +45,7 @@ fn run_by<R: Rule + Copy + Drop>(
     };
     let sheet = month_sheet(first)?;
     let blank = Line { units: 0, cents: 0 };
-    let mut file = vec![in heap; blank; 6 * 13 * members]?;
+    let mut file = vec![in heap; blank; 6 * width]?;
     let mut statements = vec![in heap; 0i64; cells]?;
     let mut outcomes = vec![in heap; Ok(Done::Booked); orders.len()]?;
     let mut ledger = Ledger::blank(rule);
@@ -75,7 +75,7 @@ pub(crate) fn run_orders(
     first: &Month,
     orders: &[Order<FactBook>],
 ) -> Result<Ran, Unread> {
-    // Each arm is another type of rule, so no one value stands for both.
+    // Each rule has its own constant STEP, so one type cannot stand for both.
     match first.rule {
         RuleName::Posted => run_by(heap, Posted, first, orders),
         RuleName::Ratio => run_by(heap, Ratio, first, orders),

@@ -6,6 +6,7 @@ use month_text::month::Month;
 pub enum Action {
     /// Book the month's costs and bill it.
     Bill,
+    // The component is a plain number: it is handed in untested, and refusal 6 tests it.
     /// Share a component's pool of the month again.
     Resettle(u32),
 }

@@ -46,7 +46,7 @@ pub fn bill_month(month: &Month) -> Result<Bill, Fault>
         return Err(Layer::Ledger.refuses(Refusal::Count));
     }
     let pools = month_pools(month)?;
-    // Each arm is another type of rule, so no one value stands for both.
+    // Each rule has its own constant STEP, so one type cannot stand for both.
     match month.rule {
         RuleName::Posted => charge_by(&Posted, month, pools),
         RuleName::Ratio => charge_by(&Ratio, month, pools),

@@ -1,8 +1,10 @@
 //! The one fault type of the whole repository: which refusal, which layer's check failed, and where.
 #![tactic(auto)]
 
-ghost use Rattle.std.specs.Prelude.{◌≡◌};
+ghost use Rattle.std.specs.Prelude.{◌≡◌, Some, decimal};
 ghost use Rattle.refusal.specs.Answers.{number};
+
+use std::fmt;
 
 /// Why a call was refused; each has the number that programs print.
 #[derive(Clone, Copy, PartialEq, Eq, Debug)]
@@ -70,6 +72,16 @@ impl Refusal {
         ensures { result ≡ number self }
     {
         self as u32
+    }
+}
+
+/// A refusal is printed as its number.
+impl fmt::Display for Refusal {
+    ghost output = { λ refusal. Some (decimal (number refusal)) };
+
+    fn fmt<W: fmt::Write>(&self, f: &mut fmt::Formatter<W>) -> fmt::Result {
+        let number = self.number();
+        write!(f, "{number}")
     }
 }
 

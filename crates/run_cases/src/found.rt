@@ -1,7 +1,6 @@
 //! What is found after the first orders of a run, as the second program stores it.
 use crate::stored::StoredRun;
 use anyhow::{Context, anyhow};
-use book::book::Book;
 use bottom_books::table_book::TableBook;
 use charges_text::charges::ComponentCharge;
 use ledger::ledger::Ledger;

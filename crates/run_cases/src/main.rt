@@ -7,7 +7,8 @@ mod stored;
 
 use crate::found::found_after;
 use crate::numbers::{Numbers, numbers_of};
-use crate::stored::{RuleName, StoredRun, run_of};
+use crate::stored::{StoredRun, run_of};
+use month_text::month::RuleName;
 use sharing::posted::Posted;
 use sharing::ratio::Ratio;
 use sharing::rule::Rule;
@@ -45,6 +46,7 @@ fn agrees(rt: &HostRuntime, number: u32) -> anyhow::Result<bool> {
     let found_text = fs::read_to_string(rt, found_name.as_str())?;
     let stored = run_of(heap, &mut Numbers::new(run_text.as_str()))?;
     let wanted = numbers_of(heap, found_text.as_str())?;
+    // Each rule has its own constant STEP, so one type cannot stand for both.
     let differing = match stored.rule {
         RuleName::Posted => differing_step(heap, Posted, &stored, wanted.as_slice())?,
         RuleName::Ratio => differing_step(heap, Ratio, &stored, wanted.as_slice())?,

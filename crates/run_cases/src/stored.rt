@@ -3,17 +3,11 @@ use crate::numbers::Numbers;
 use anyhow::anyhow;
 use bottom_books::table_book::TableBook;
 use ledger::line::Line;
+use month_text::month::RuleName;
 use runs::order::{Costs, Order};
 use std::alloc::Global;
 use std::array;
 use tariff::sheet::Sheet;
-
-/// The sharing rule of a ledger.
-#[derive(Clone, Copy)]
-pub enum RuleName {
-    Posted,
-    Ratio,
-}
 
 /// What a run is made from.
 #[derive(Drop)]

@@ -14,6 +14,7 @@ pub enum Order<B> {
     Book(Costs),
     /// Bill the open month by a book.
     Bill(B),
+    // The component is a plain number: it is handed in untested, and refusal 6 tests it.
     /// Resettle a component, 1 to 13, of the book's month.
     Resettle(u32, B),
 }

@@ -24,7 +24,7 @@ fn read_rows<R, M: Measure<R>>(measure: &M, rows: &[R], out: &mut [[u32; 7]]) ->
     Ok(())
 }
 
-/// The same in 200 places of its own; those past the rows have no units.
+/// Rows read as units, into the first of 200 places; the others have none.
 fn fresh_rows<R, M: Measure<R>>(measure: &M, rows: &[R]) -> Result<[[u32; 7]; 200], Fault>
     requires { length rows.now ≤ 200 }
     ensures told { answer_by (λ fresh. take (length rows.now) fresh) result ≡ rows_rule (M.reads measure.now) rows.now }

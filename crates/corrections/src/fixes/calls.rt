@@ -32,6 +32,7 @@ impl Fixes {
             .position(|fix| pair == fix.pair)
     }
 
+    // By `find`, as `seek` is; by way of `place` the check alone did not prove what it ensures.
     /// The units that a pair was corrected to.
     pub(crate) fn look(&self, pair: Pair) -> Option<u32>
         ensures { result ≡ seek (take self.now.used self.now.list) pair.kind pair.member }
