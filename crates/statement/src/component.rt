@@ -6,7 +6,6 @@ ghost use Rattle.statement.specs.Charges.{charge, charged};
 use crate::checks::TestedMonth;
 use crate::kind::Kind;
 use cents::totals::sum_of;
-use cents::weights::total;
 use charges_text::charges::ComponentCharge;
 use sharing::rule::Rule;
 
