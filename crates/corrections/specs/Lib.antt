@@ -1,3 +1,4 @@
 pub mod Fixes
 pub mod Places
 pub mod Values
+pub mod Kept

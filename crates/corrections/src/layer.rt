@@ -1,7 +1,8 @@
 //! The layer of corrections over a book. It keeps each corrected pair's units and means these, and
 //! the book's units for every other pair; the book below stays as it is.
-ghost use Rattle.std.specs.Prelude.{◌≡◌, [], take, is_some};
+ghost use Rattle.std.specs.Prelude.{◌≡◌, [], is_some};
 ghost use Rattle.std.specs.Option.{unwrap_or};
+ghost use Rattle.corrections.specs.Kept.{kept};
 ghost use Rattle.corrections.specs.Fixes.{seek, takes_pair};
 ghost use Rattle.corrections.specs.Values.{kept_small};
 ghost use Rattle.std.proofs.Common.{rules};
@@ -23,7 +24,7 @@ impl<B> Corrections<B> {
     /// Lays the layer over a book; nothing is corrected yet.
     pub fn over(book: B) -> Corrections<B>
         ensures book { result.book ≡ book }
-        ensures fixes { take result.fixes.used result.fixes.list ≡ [] }
+        ensures fixes { kept result.fixes ≡ [] }
     {
         Corrections {
             book,
@@ -37,7 +38,7 @@ impl<B: Book> Book for Corrections<B> {
 
     ghost count = { λ c. B.Book.count c.book };
 
-    ghost held = { λ c kind member. unwrap_or (seek (take c.fixes.used c.fixes.list) kind member) (B.Book.held c.book kind member) };
+    ghost held = { λ c kind member. unwrap_or (seek (kept c.fixes) kind member) (B.Book.held c.book kind member) };
 
     ghost dated = { Prim.search rules };
 
@@ -63,9 +64,9 @@ impl<B: Book> Book for Corrections<B> {
 }
 
 impl<B: Book> Correctable for Corrections<B> {
-    ghost takes = { λ c kind member. takes_pair (take c.fixes.used c.fixes.list) kind member };
+    ghost takes = { λ c kind member. takes_pair (kept c.fixes) kind member };
 
-    ghost keeps = { λ c kind member. is_some (seek (take c.fixes.used c.fixes.list) kind member) };
+    ghost keeps = { λ c kind member. is_some (seek (kept c.fixes) kind member) };
 
     ghost lasting = { Prim.search rules };
 

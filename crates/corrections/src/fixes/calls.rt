@@ -1,7 +1,8 @@
 //! Looking a pair up, and keeping its units.
-ghost use Rattle.std.specs.Prelude.{◌≡◌, ℕ, ◌≤◌, [], take, if◌then◌else◌, Some, MatchResult, position};
+ghost use Rattle.std.specs.Prelude.{◌≡◌, ℕ, ◌≤◌, [], if◌then◌else◌, Some, MatchResult, position};
 ghost use Rattle.refusal.specs.Answers.{answer, bare};
 ghost use Rattle.book.specs.Correcting.{same_pair, taken_rule};
+ghost use Rattle.corrections.specs.Kept.{kept};
 ghost use Rattle.corrections.specs.Fixes.{is_for, seek, takes_pair};
 
 use crate::fixes::{Fix, Fixes};
@@ -11,7 +12,7 @@ use refusal::{Fault, Layer, Refusal};
 impl Fixes {
     /// No pair is corrected.
     pub(crate) fn none() -> Fixes
-        ensures { take result.used result.list ≡ [] }
+        ensures { kept result ≡ [] }
     {
         let blank = Fix {
             pair: Pair { kind: 0, member: 0 },
@@ -25,7 +26,7 @@ impl Fixes {
 
     /// The place of a pair that was corrected.
     fn place(&self, pair: Pair) -> Option<usize>
-        ensures { result ≡ position (is_for pair.kind pair.member) (take self.now.used self.now.list) }
+        ensures { result ≡ position (is_for pair.kind pair.member) (kept self.now) }
     {
         self.list[..self.used]
             .iter()
@@ -35,7 +36,7 @@ impl Fixes {
     // By `find`, as `seek` is; by way of `place` the check alone did not prove what it ensures.
     /// The units that a pair was corrected to.
     pub(crate) fn look(&self, pair: Pair) -> Option<u32>
-        ensures { result ≡ seek (take self.now.used self.now.list) pair.kind pair.member }
+        ensures { result ≡ seek (kept self.now) pair.kind pair.member }
     {
         self.list[..self.used]
             .iter()
@@ -46,8 +47,8 @@ impl Fixes {
     /// Keeps a pair's units; refused where no place is left for a new pair, and then nothing changes.
     pub(crate) fn put(&mut self, pair: Pair, units: u32) -> Result<(), Fault>
         requires { units ≤ 2000000000 }
-        ensures told { answer result ≡ bare (taken_rule (takes_pair (take self.old.used self.old.list) pair.kind pair.member) units) }
-        ensures after { MatchResult result (λ _. (k m : ℕ) → seek (take self.new.used self.new.list) k m ≡ (if same_pair (k, m) (pair.kind, pair.member) then Some units else seek (take self.old.used self.old.list) k m)) (λ _. self.new ≡ self.old) }
+        ensures told { answer result ≡ bare (taken_rule (takes_pair (kept self.old) pair.kind pair.member) units) }
+        ensures after { MatchResult result (λ _. (k m : ℕ) → seek (kept self.new) k m ≡ (if same_pair (k, m) (pair.kind, pair.member) then Some units else seek (kept self.old) k m)) (λ _. self.new ≡ self.old) }
     {
         match self.place(pair) {
             Some(at) => self.list[at] = Fix { pair, units },
