@@ -42,6 +42,7 @@ fn charge_by<R: Rule>(rule: &R, month: &Month, pools: [i64; 13]) -> Result<Bill,
 pub fn bill_month(month: &Month) -> Result<Bill, Fault>
     ensures { answer_by (λ bill. (bill.components, take month.now.count bill.members)) result ≡ bill_month month.now }
 {
+    // Tested and not an invariant of `Month`, which would ask more of who makes one.
     if month.count > 32 {
         return Err(Layer::Ledger.refuses(Refusal::Count));
     }

@@ -48,6 +48,8 @@ fn run_orders<R: Rule, B: Book>(
     }
 }
 
+// Terms and lent slices come one by one: `open` takes the terms so, and a struct of lent slices would be
+// taken apart at once.
 /// Opens a ledger in the place of another and carries out a list of orders on it and its file, whatever
 /// the file holds. Each order has its outcome, and a statement of thirteen cells a member: a bill writes
 /// all of them, a resettlement the first ones. Refused before the first order, nothing changes.
