@@ -10,8 +10,8 @@ use std::io::Read;
 /// One byte more than the longest text, so that a longer one is seen.
 const MOST: usize = 16_385;
 
-/// Reads until the memory is full or the input ends. `take` and `read_to_end` would state no bound on
-/// what is read.
+/// Reads until the memory is full or the input ends. The memory is fixed, as elsewhere in billing: `take`
+/// and `read_to_end` would use the heap and state no bound on what is read.
 fn fill<R: Read>(input: &mut R, memory: &mut [u8]) -> io::Result<usize>
     ensures { IfOk result (λ n. n ≤ length memory.old) }
 {
