@@ -1,32 +1,139 @@
--- A month's steps, joined.
-use Rattle.std.proofs.Common.{◌≡◌, ℕ, ◌*◌, ◌≤◌, leb, List, length, take, ℤ, sym, ap, ◌∙◌}
-use Rattle.std.proofs.lemmas.Bool.{cond-true, le-leb}
-use Rattle.refusal.specs.Answers.{Told, done, next}
+-- A month's steps on a new ledger, joined.
+use Rattle.std.proofs.Common.{◌≡◌, ℕ, ◌*◌, ◌≤◌, cond, eqb, List, [], ◌∷◌, ◌++◌, length, get_or, take, replicate, ℤ, pos, ◌+ℤ◌, sym, refl, ap, ◌∙◌, arith}
+use borrow.Author.Differences.{ints}
+use Rattle.std.proofs.lemmas.Bool.{cond-true, eq-eqb}
+use Rattle.std.proofs.lemmas.List.{length-append}
+use Rattle.refusal.specs.Answers.{Told, done, refused, next, after}
+use Rattle.refusal.specs.declared.Layer.{Layer}
+use Rattle.refusal.specs.declared.Layer.TheVariants as layer
+use Rattle.refusal.proofs.Apart.{done_refused, refused_done}
+use Rattle.cents.specs.Cutting.{cut}
+use Rattle.cents.proofs.Parts.{cut_length}
+use Rattle.tariff.specs.Heads.{at, sums}
+use Rattle.tariff.specs.Costs.{halves, settlement_weights, service_costs, costs}
 use Rattle.month_text.specs.declared.month.Month.{Month}
-use Rattle.month_text.specs.declared.month.RuleName.{RuleName}
+use Rattle.month_text.specs.declared.month.Member.{Member}
 use Rattle.charges_text.specs.declared.charges.ComponentCharge.{ComponentCharge}
 use Rattle.charges_text.specs.declared.charges.MemberCharge.{MemberCharge}
 use Rattle.statement.specs.Checks.{charge_rule}
 use Rattle.statement.specs.Charges.{Shares, components, cells}
+use Rattle.ledger.specs.declared.line.Line.{Line}
+use Rattle.ledger.specs.declared.accounts.Accounts.{Accounts}
+use Rattle.ledger.specs.Readings.{Reading, rows_read}
+use Rattle.ledger.specs.Standings.{Standing, standing, opened, open_rule, balances}
+use Rattle.ledger.specs.Billing.{Cut, Left, ranges_rule, bill_check, bill_rule, bill_leaves, pools_for}
+use Rattle.ledger.proofs.Passed.{ranges_left, rows_length}
 use Rattle.month_bill.specs.Members.{month_units, member_rows}
 use Rattle.month_bill.proofs.Listed.{rows_take}
-use Rattle.month_bill.specs.Bills.{month_pools, charge_members, shares_of, bill_month}
+use Rattle.month_bill.specs.Bills.{month_sheet, month_heads, charge_members, bill_by}
+
+abbrev Charges : Type 0
+Charges = List ComponentCharge × List MemberCharge
 
 -- a step that was done gives way to the next one
-pub goes : {S T : Type 0} {t : Told S} {v : S} (k : S → Told T) → done v ≡ t → k v ≡ next t k
+goes : {S T : Type 0} {t : Told S} {v : S} (k : S → Told T) → done v ≡ t → k v ≡ next t k
 goes k e = ap (λ t. next t k) e
 
-pub members_done : (shares : Shares) (m : Month) (pools : List ℤ) (rows : List (List ℕ)) (width : ℕ) (charged : List ComponentCharge) (statement : List ℤ) → m.count ≤ 32 → done rows ≡ month_units m
-    → width ≡ 13 * length rows → done tt ≡ charge_rule pools rows width → charged ≡ components shares pools rows 13 → statement ≡ cells shares pools rows 13
-    → done (charged, take m.count (member_rows statement 0 m.members)) ≡ charge_members shares m.month pools (take m.count m.members)
-members_done shares m pools rows width charged statement l u w t c s =
-    let members = take m.count m.members in
-    rw (c, s, rows_take (cells shares pools rows 13) 0 m.count m.members) (goes (λ _. done (components shares pools rows 13, member_rows (cells shares pools rows 13) 0 members)) (t ∙ ap (charge_rule pools rows) w)
-    ∙ goes (λ rows. next (charge_rule pools rows (13 * length rows)) (λ _. done (components shares pools rows 13, member_rows (cells shares pools rows 13) 0 members))) (u ∙ cond-true (leb m.count 32) _ _ (le-leb m.count 32 l)))
+-- two steps, one after the other
+then_done : {S T U : Type 0} (t : Told S) (v : T) (k : T → Told U) → next (next t (λ _. done v)) k ≡ next t (λ _. k v)
+then_done (done s) v k = refl
+then_done (refused n l p) v k = refl
 
-pub bill_done : (m : Month) (name : RuleName) (pools : List ℤ) (x : Told (List ComponentCharge × List MemberCharge)) → m.rule ≡ name → m.count ≤ 32 → done pools ≡ month_pools m
-    → x ≡ charge_members (shares_of name) m.month pools (take m.count m.members) → x ≡ bill_month m
-bill_done m name pools x e l p h =
-    h ∙ ap (λ n. charge_members (shares_of n) m.month pools (take m.count m.members)) (sym e)
-    ∙ goes (λ pools. charge_members (shares_of m.rule) m.month pools (take m.count m.members)) p
-    ∙ sym (cond-true (leb m.count 32) _ _ (le-leb m.count 32 l))
+-- a sheet makes thirteen costs
+costs_long : (d g s : List ℕ) (heads : List ℤ) → length (costs d g s heads) ≡ 13
+costs_long d g s heads =
+    let five = service_costs d g heads in
+    let two = cut (at five 1) (halves (get_or s 0 0)) in
+    let three = cut (at five 2) (halves (get_or s 1 0)) in
+    let rest = at five 3 ∷ cut (at five 4) settlement_weights in
+    omega (arith, length-append two (three ++ rest), length-append three rest, cut_length (at five 1) (halves (get_or s 0 0)), cut_length (at five 2) (halves (get_or s 1 0)), cut_length (at five 4) settlement_weights)
+
+-- the balances of a new ledger add nothing
+sums_none : (zs : List ℤ) → sums zs (replicate (length zs) (pos 0)) ≡ zs
+sums_none [] = refl
+sums_none (z ∷ zs) =
+    let e : z +ℤ pos 0 ≡ z = omega (arith, ints) in
+    rw (e, sums_none zs) refl
+
+new_pools : (zs : List ℤ) (n first : ℕ) → length zs ≡ 13 → sums zs (balances (opened n first)) ≡ zs
+new_pools zs n first e = ap (λ (k : ℕ). sums zs (replicate k (pos 0))) (sym e) ∙ sums_none zs
+
+-- a bill by a new ledger, with a file, a statement and a book that fit
+module _ (shares : Shares) (cut : Cut) (heads : List ℤ) (a : Accounts) (file : List Line) (b : Reading) (width first : ℕ) (members : List Member)
+    (new : a ≡ opened b.count first) (thirteen : length (cut heads) ≡ 13) (lines : length file ≡ 78 * b.count) (wide : width ≡ 13 * b.count) (month : b.month ≡ first) (low : 1 ≤ b.count) (high : b.count ≤ 200) where
+  abbrev s : Standing
+  s = standing heads a file
+
+  abbrev charged : Left → Told Charges
+  charged left = done (left.components, member_rows left.cells 0 members)
+
+  pools : pools_for cut s ≡ cut heads
+  pools = ap (λ (x : Accounts). sums (cut heads) (balances x)) new ∙ new_pools (cut heads) b.count first thirteen
+
+  -- it tests the ranges
+  checked : bill_check a (pools_for cut s) b (length file) width ≡ charge_rule (cut heads) (rows_read b) (13 * length (rows_read b))
+  checked =
+      let l = rows_length b.held 0 b.count in
+      rw (new, wide)
+      (ap (λ (t : Told (Unit {0})). next t (λ _. cond (eqb b.month first) (ranges_rule (sums (cut heads) (balances (opened b.count first))) (rows_read b)) (refused 5 layer.Ledger 0)))
+      (cond-true (eqb (length file) (78 * b.count)) _ _ (eq-eqb (length file) (78 * b.count) lines) ∙ cond-true (eqb (13 * b.count) (13 * b.count)) _ _ (eq-eqb (13 * b.count) (13 * b.count) refl) ∙ cond-true (eqb b.count b.count) _ _ (eq-eqb b.count b.count refl))
+      ∙ cond-true (eqb b.month first) _ _ (eq-eqb b.month first month)
+      ∙ ap (λ (ps : List ℤ). ranges_rule ps (rows_read b)) (new_pools (cut heads) b.count first thirteen)
+      ∙ sym (ranges_left (cut heads) (rows_read b) (13 * length (rows_read b)) (charge_rule (cut heads) (rows_read b) (13 * length (rows_read b))) refl (omega (arith, l)) (omega (arith, l)) refl))
+
+  -- and charges the costs
+  new_bill : next (bill_rule shares cut s b width) charged ≡ charge_members shares (cut heads) (rows_read b) members
+  new_bill =
+      then_done (bill_check a (pools_for cut s) b (length file) width) (bill_leaves shares cut s b) charged
+      ∙ ap (λ (t : Told (Unit {0})). next t (λ _. charged (bill_leaves shares cut s b))) checked
+      ∙ ap (λ (ps : List ℤ). next (charge_rule (cut heads) (rows_read b) (13 * length (rows_read b))) (λ _. done (components shares ps (rows_read b) 13, member_rows (cells shares ps (rows_read b) 13) 0 members))) pools
+
+  -- accepted, its components and the members' cells are those of the month
+  bill_accepted : (charges : List ComponentCharge) (memory written : List ℤ) → done charges ≡ next (bill_rule shares cut s b width) (λ left. done left.components)
+      → written ≡ after (bill_rule shares cut s b width) (λ left. left.cells) memory
+      → done (charges, member_rows written 0 members) ≡ charge_members shares (cut heads) (rows_read b) members
+  bill_accepted charges memory written e w = held (bill_rule shares cut s b width) e w ∙ new_bill
+    where
+      held : (x : Told Left) → done charges ≡ next x (λ left. done left.components) → written ≡ after x (λ left. left.cells) memory → done (charges, member_rows written 0 members) ≡ next x charged
+      held (done left) e w = let d : charges ≡ left.components = cc in rw (d, w) refl
+      held (refused n l p) e w = absurd (done_refused charges n l p e)
+
+  -- refused, the refusal is the month's
+  bill_refused : (k : ℕ) (l : Layer) (p : ℕ) → refused k l p ≡ next (bill_rule shares cut s b width) (λ left. done left.components) → refused k l p ≡ charge_members shares (cut heads) (rows_read b) members
+  bill_refused k l p e = held (bill_rule shares cut s b width) e ∙ new_bill
+    where
+      held : (x : Told Left) → refused k l p ≡ next x (λ left. done left.components) → refused k l p ≡ next x charged
+      held (done left) e = absurd (refused_done k l p left.components e)
+      held (refused i j q) e = cc
+
+-- the same, where the sheet, the units of a month's book and its heads were accepted before
+module _ (shares : Shares) (m : Month) (d g s : List ℕ) (heads : List ℤ) (a : Accounts) (file : List Line) (b : Reading) (width members : ℕ)
+    (sheet : done (d, g, s) ≡ month_sheet m) (units : done (rows_read b) ≡ month_units m) (booked : done heads ≡ next (open_rule members m.month) (λ _. month_heads m)) (new : a ≡ opened members m.month)
+    (count : members ≡ b.count) (lines : length file ≡ 78 * b.count) (wide : width ≡ 13 * b.count) (month : b.month ≡ m.month) (low : 1 ≤ b.count) (high : b.count ≤ 200) where
+  abbrev answers : Told Left
+  answers = bill_rule shares (costs d g s) (standing heads a file) b width
+
+  opened_for : a ≡ opened b.count m.month
+  opened_for = new ∙ ap (λ (n : ℕ). opened n m.month) count
+
+  chained : (x : Told Charges) → x ≡ charge_members shares (costs d g s heads) (rows_read b) (take m.count m.members) → x ≡ bill_by shares m
+  chained x e =
+      let paying = take m.count m.members in
+      e
+      ∙ goes (λ heads. charge_members shares (costs d g s heads) (rows_read b) paying) (last (open_rule members m.month) booked)
+      ∙ goes (λ rows. next (month_heads m) (λ heads. charge_members shares (costs d g s heads) rows paying)) units
+      ∙ goes (λ sheet. next (month_units m) (λ rows. next (month_heads m) (λ heads. charge_members shares (costs sheet.0 sheet.1 sheet.2 heads) rows paying))) sheet
+    where
+      last : {T : Type 0} (t : Told T) → done heads ≡ next t (λ _. month_heads m) → done heads ≡ month_heads m
+      last (done _) e = e
+      last (refused n l p) e = absurd (done_refused heads n l p e)
+
+  pub month_accepted : (charges : List ComponentCharge) (memory written : List ℤ) → done charges ≡ next answers (λ left. done left.components) → written ≡ after answers (λ left. left.cells) memory
+      → done (charges, take m.count (member_rows written 0 m.members)) ≡ bill_by shares m
+  month_accepted charges memory written e w =
+      chained _ (ap (λ (rows : List MemberCharge). done (charges, rows)) (rows_take written 0 m.count m.members)
+      ∙ bill_accepted shares (costs d g s) heads a file b width m.month (take m.count m.members) opened_for (costs_long d g s heads) lines wide month low high charges memory written e w)
+
+  pub month_refused : (k : ℕ) (l : Layer) (p : ℕ) → refused k l p ≡ next answers (λ left. done left.components) → refused k l p ≡ bill_by shares m
+  month_refused k l p e =
+      chained _ (bill_refused shares (costs d g s) heads a file b width m.month (take m.count m.members) opened_for (costs_long d g s heads) lines wide month low high k l p e)

@@ -57,10 +57,10 @@ book_read month n facts rows l e =
     e ∙ ap done (sym (rows_read rows 0 n (omega arith) f))
 
 -- the same of a month's book
-pub units_read : (m : Month) (rows : List (List ℕ)) → m.count ≤ 32 → m.count ≤ length rows → done (take m.count rows) ≡ month_units m → done (book_rows (cell rows) 0 m.count) ≡ month_units m
-units_read m rows l n e =
+pub units_read : (m : Month) (rows : List (List ℕ)) (n : ℕ) → n ≡ m.count → m.count ≤ 32 → m.count ≤ length rows → done (take m.count rows) ≡ month_units m → done (book_rows (cell rows) 0 n) ≡ month_units m
+units_read m rows n k l h e =
     let u = cond-true (leb m.count 32) (units_rule m.month (take m.count m.members)) (refused 4 layer.Ledger 0) (le-leb m.count 32 l) in
-    sym (book_read m.month m.count (facts_of_all (take m.count m.members)) rows n (sym u ∙ sym e)) ∙ sym u
+    ap (λ (c : ℕ). done (book_rows (cell rows) 0 c)) k ∙ sym (book_read m.month m.count (facts_of_all (take m.count m.members)) rows h (sym u ∙ sym e)) ∙ sym u
 
 -- the rows of the first members
 pub rows_take : (statement : List ℤ) (i n : ℕ) (members : List Member) → take n (member_rows statement i members) ≡ member_rows statement i (take n members)

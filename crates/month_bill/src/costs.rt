@@ -1,13 +1,14 @@
-//! The pools of a month that starts from nothing: its thirteen component costs.
-ghost use Rattle.std.specs.Prelude.{◌≡◌};
-ghost use Rattle.refusal.specs.Answers.{answer, answer_by};
-ghost use Rattle.month_bill.specs.Bills.{no_heads, month_sheet, month_pools};
-ghost use Rattle.tariff.specs.Heads.{book_rule};
+//! A month's sheet, and its costs on a new ledger.
+ghost use Rattle.std.specs.Prelude.{◌≡◌, IfOk};
+ghost use Rattle.refusal.specs.Answers.{answer_by, next};
+ghost use Rattle.ledger.specs.Standings.{opened, open_rule};
+ghost use Rattle.month_bill.specs.Bills.{month_sheet, month_heads};
 
+use ledger::ledger::Ledger;
 use month_text::month::Month;
-use month_voucher::cost_amounts;
+use month_voucher::cost_voucher;
 use refusal::Fault;
-use tariff::heads::Heads;
+use sharing::rule::Rule;
 use tariff::sheet::Sheet;
 
 /// The month's sheet.
@@ -23,21 +24,19 @@ pub fn month_sheet(month: &Month) -> Result<Sheet, Fault>
     Ok(sheet)
 }
 
-/// Six amounts booked on empty heads.
-fn booked(amounts: [i64; 6]) -> Result<Heads, Fault>
-    ensures { answer_by (λ heads. heads.amounts) result ≡ book_rule no_heads amounts }
+/// A new ledger of the month and some members, with the month's costs booked.
+pub(crate) fn month_ledger<R: Rule + Copy + Drop>(
+    rule: R,
+    sheet: Sheet,
+    members: u32,
+    month: &Month,
+) -> Result<Ledger<R>, Fault>
+    ensures told { answer_by (λ ledger. ledger.heads.amounts) result ≡ next (open_rule members month.now.month) (λ _. month_heads month.now) }
+    ensures opened { IfOk result (λ ledger. (ledger.rule ≡ rule) × (ledger.sheet ≡ sheet) × (ledger.accounts ≡ opened members month.now.month)) }
 {
-    let mut heads = Heads::zero();
-    heads.book(amounts)?;
-    Ok(heads)
-}
-
-/// Lays the month's sheet, books its costs by a balanced voucher and cuts them.
-pub fn month_pools(month: &Month) -> Result<[i64; 13], Fault>
-    ensures { answer result ≡ month_pools month.now }
-{
-    let sheet = month_sheet(month)?;
-    let amounts = cost_amounts(month.control, month.cost)?;
-    let heads = booked(amounts)?;
-    Ok(sheet.costs(&heads))
+    let mut ledger = Ledger::blank(rule);
+    ledger.open(rule, sheet, members, month.month)?;
+    let voucher = cost_voucher(month.control, month.cost)?;
+    ledger.book(voucher).map_err(|unbooked| unbooked.fault)?;
+    Ok(ledger)
 }

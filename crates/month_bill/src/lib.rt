@@ -1,4 +1,4 @@
-//! A month from its text to its printed charges. It starts from nothing: every balance is 0.
+//! A month from its text to its printed charges, billed by a new ledger: every balance before it is 0.
 #![tactic(auto)]
 
 pub mod answer;

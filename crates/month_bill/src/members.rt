@@ -8,7 +8,6 @@ use charges_text::charges::MemberCharge;
 use month_text::month::{Member, Month};
 use refusal::{Fault, Layer, Refusal};
 use statement::month::member_charges;
-use statement::reading::read_book;
 use std::array;
 use units::facts::Facts;
 
@@ -32,16 +31,6 @@ pub fn month_book(month: &Month) -> Result<FactBook, Fault>
     let mut book = FactBook::blank();
     book.fill(month.month, &facts[0..month.count])?;
     Ok(book)
-}
-
-/// The members' units of the seven kinds, by the fact book of the month; refused where it is.
-pub(crate) fn member_units(month: &Month) -> Result<[[u32; 7]; 32], Fault>
-    ensures { answer_by (λ units. take month.now.count units) result ≡ month_units month.now }
-{
-    let book = month_book(month)?;
-    let mut units = [[0u32; 7]; 32];
-    read_book(&book, &mut units[0..month.count])?;
-    Ok(units)
 }
 
 /// What the members of all places pay by a statement.

@@ -33,11 +33,12 @@ fn fill(voucher: &mut Voucher, cost: [i64; 6]) -> Result<(), Fault>
     voucher.balance()
 }
 
-/// A balanced voucher of a month's costs; where it is refused, the voucher is struck out.
+/// A balanced voucher of a month's costs, which add up to the control total; where it is refused, the
+/// voucher is struck out.
 pub fn cost_voucher(control: i64, cost: [i64; 6]) -> Result<Voucher, Fault>
     ensures told { answer_by (λ v. v.amounts) result ≡ cost_rule control cost }
     ensures balanced { IfOk result (λ v. v.state ≡ Balanced) }
-    ensures whole { IfOk result (λ v. (v.control ≡ control) × (v.amounts ≡ cost)) }
+    ensures whole { IfOk result (λ v. (v.control ≡ control) × (v.amounts ≡ cost) × (sum_z cost ≡ control)) }
 {
     let mut voucher = Voucher::open(control)?;
     if let Err(fault) = fill(&mut voucher, cost) {
@@ -45,13 +46,4 @@ pub fn cost_voucher(control: i64, cost: [i64; 6]) -> Result<Voucher, Fault>
         return Err(fault);
     }
     Ok(voucher)
-}
-
-/// The amounts that a month's costs book, which add up to the control total.
-pub fn cost_amounts(control: i64, cost: [i64; 6]) -> Result<[i64; 6], Fault>
-    ensures told { answer result ≡ cost_rule control cost }
-    ensures whole { IfOk result (λ amounts. (amounts ≡ cost) × (sum_z amounts ≡ control)) }
-{
-    let voucher = cost_voucher(control, cost)?;
-    Ok(voucher.spend())
 }

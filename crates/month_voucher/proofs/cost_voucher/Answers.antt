@@ -1,5 +1,6 @@
 use Rattle.std.proofs.Common.{ℤ, sym, ap, ◌∙◌, arith, w64}
 use Rattle.std.proofs.lemmas.Int.{to_z-of_z}
+use Rattle.cents.specs.Cutting.{sum_z}
 use Rattle.month_voucher.specs.Costs.{fill_rule}
 use Rattle.month_voucher.proofs.Filled.{cost_rule_lem, cost_opened, cost_full, unbare}
 use Rattle.month_voucher.proofs.cost_voucher.Goals as goal
@@ -21,4 +22,6 @@ returns-clause-whole c =
     let o = c.in_ok-voucher.ensures in
     let k = cost_opened c.args.control _ c.args.cost v.amounts v.control v.state e o in
     let f = ap (λ (z : ℤ). fill_rule z v.amounts c.args.cost) (sym k) ∙ c.in_default.ensures.amounts in
-    (c.in_default.ensures.control ∙ k, cost_full c.args.control _ c.args.cost v.amounts v.control v.state e o c.fill.new.voucher.amounts (omega arith) f)
+    let full = cost_full c.args.control _ c.args.cost v.amounts v.control v.state e o c.fill.new.voucher.amounts (omega arith) f in
+    let held = c.in_default.ensures.control ∙ k in
+    (held, full, ap sum_z (sym full) ∙ c.fill.new.voucher.even c.in_default.ensures.state ∙ held)
