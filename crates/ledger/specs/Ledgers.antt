@@ -4,7 +4,6 @@ use Rattle.refusal.specs.Answers.{Told}
 use Rattle.tariff.specs.declared.sheet.Sheet.{Sheet}
 use Rattle.tariff.specs.Costs.{costs}
 use Rattle.sharing.specs.declared.rule.Rule.{Ghosts}
-use Rattle.statement.specs.Charges.{Shares}
 use Rattle.ledger.specs.declared.line.Line.{Line}
 use Rattle.ledger.specs.declared.ledger.Ledger.{Ledger}
 use Rattle.ledger.specs.Standings.{Standing, standing}
@@ -20,9 +19,9 @@ cut_by sheet = costs sheet.division sheet.management sheet.split
 abbrev pub standing_of : {R : Type 0} → {G : Ghosts R} → Ledger R G → List Line → Standing
 standing_of l file = standing l.heads.amounts l.accounts file
 
--- what it was opened with, where a rule means shares and has a step
-abbrev pub terms_of : {R : Type 0} → {G : Ghosts R} → (R → Shares) → ℕ → Ledger R G → Terms
-terms_of shares step l = terms (shares l.rule) step (cut_by l.sheet) l.accounts.members l.accounts.first
+-- what it was opened with
+abbrev pub terms_of : {R : Type 0} → {G : Ghosts R} → Ledger R G → Terms
+terms_of {R} {G} l = terms (G.shares l.rule) G.STEP (cut_by l.sheet) l.accounts.members l.accounts.first
 
 -- its bill of the open month by a reading, and its resettlement of a component by one, with a statement
 abbrev pub bill_of : {R : Type 0} → {G : Ghosts R} → Ledger R G → List Line → Reading → List ℤ → Told Left

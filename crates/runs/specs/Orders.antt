@@ -3,7 +3,8 @@ use Rattle.std.specs.Prelude.{◌≡◌, ℕ, ◌-◌, ◌*◌, List, [], ◌∷
 use Rattle.refusal.specs.Answers.{Told, done, next, after}
 use Rattle.tariff.specs.Heads.{book_rule}
 use Rattle.month_voucher.specs.Costs.{cost_rule}
-use Rattle.ledger.specs.Readings.{Reading, reading}
+use Rattle.book.specs.declared.book.Book.{Ghosts}
+use Rattle.ledger.specs.Readings.{Reading, reading_of}
 use Rattle.ledger.specs.Files.{put}
 use Rattle.ledger.specs.Standings.{Standing, standing}
 use Rattle.ledger.specs.Billing.{Left, bill_rule}
@@ -21,10 +22,10 @@ pub data Deed : Type 0 where
   bill : Reading → Deed
   resettle : ℕ → Reading → Deed
 
-abbrev pub deed_of : {B : Type 0} → (B → ℕ) → (B → ℕ) → (B → ℕ → ℕ → ℕ) → Order B → Deed
-deed_of month count held (order.Book costs) = book costs.control costs.amounts
-deed_of month count held (order.Bill b) = bill (reading (month b) (count b) (held b))
-deed_of month count held (order.Resettle component b) = resettle component (reading (month b) (count b) (held b))
+abbrev pub deed_of : {B : Type 0} → Ghosts B → Order B → Deed
+deed_of g (order.Book costs) = book costs.control costs.amounts
+deed_of g (order.Bill b) = bill (reading_of g b)
+deed_of g (order.Resettle component b) = resettle component (reading_of g b)
 
 -- what an accepted order leaves, and how it is remembered
 pub record Carried : Type 0 where

@@ -16,7 +16,7 @@ use sharing::rule::Rule;
 
 /// Puts costs on a voucher and books it.
 fn book_costs<R: Rule>(ledger: &mut Ledger<R>, costs: &Costs) -> Result<Done, Fault>
-    ensures carried { (f : List Line) → CarriedOut (terms_of R.shares R.STEP ledger.old) (book costs.now.control costs.now.amounts) (standing_of ledger.old f) (standing_of ledger.new f) (answer result) }
+    ensures carried { (f : List Line) → CarriedOut (terms_of ledger.old) (book costs.now.control costs.now.amounts) (standing_of ledger.old f) (standing_of ledger.new f) (answer result) }
     ensures same { (ledger.new.rule ≡ ledger.old.rule) × (ledger.new.sheet ≡ ledger.old.sheet) }
 {
     let voucher = cost_voucher(costs.control, costs.amounts)?;
@@ -34,8 +34,8 @@ pub(crate) fn carry_out<R: Rule, B: Book>(
     cells: &mut [i64],
 ) -> Result<Done, Fault>
     requires { length cells.old ≡ 13 * ledger.old.accounts.members }
-    ensures carried { CarriedOut (terms_of R.shares R.STEP ledger.old) (deed_of B.month B.count B.held order.now) (standing_of ledger.old file.old) (standing_of ledger.new file.new) (answer result) }
-    ensures cells { cells.new ≡ cells_after (terms_of R.shares R.STEP ledger.old) (standing_of ledger.old file.old) (deed_of B.month B.count B.held order.now) cells.old }
+    ensures carried { CarriedOut (terms_of ledger.old) (deed_of B.Book order.now) (standing_of ledger.old file.old) (standing_of ledger.new file.new) (answer result) }
+    ensures cells { cells.new ≡ cells_after (terms_of ledger.old) (standing_of ledger.old file.old) (deed_of B.Book order.now) cells.old }
     ensures same { (ledger.new.rule ≡ ledger.old.rule) × (ledger.new.sheet ≡ ledger.old.sheet) }
 {
     match order {

@@ -34,8 +34,8 @@ fn run_orders<R: Rule, B: Book>(
 )
     requires outcomes { length outcomes.old ≡ length orders.now }
     requires cells { length statements.old ≡ length orders.now * (13 * ledger.old.accounts.members) }
-    requires kept { Kept (terms_of R.shares R.STEP ledger.old) [] (standing_of ledger.old file.old) }
-    ensures ran { Ran (terms_of R.shares R.STEP ledger.old) (record { stands = standing_of ledger.old file.old; history = [] }) (map (deed_of B.month B.count B.held) orders.now) outcomes.new statements.old statements.new (standing_of ledger.new file.new) }
+    requires kept { Kept (terms_of ledger.old) [] (standing_of ledger.old file.old) }
+    ensures ran { Ran (terms_of ledger.old) (record { stands = standing_of ledger.old file.old; history = [] }) (map (deed_of B.Book) orders.now) outcomes.new statements.old statements.new (standing_of ledger.new file.new) }
     ensures same { (ledger.new.rule ≡ ledger.old.rule) × (ledger.new.sheet ≡ ledger.old.sheet) }
 {
     let width = 13 * ledger.members() as usize;
@@ -65,7 +65,7 @@ pub fn run<R: Rule + Drop, B: Book>(
     outcomes: &mut [Result<Done, Fault>],
 ) -> Result<(), Fault>
     ensures told { answer result ≡ run_rule (length orders.now) (length outcomes.old) (length statements.old) members first }
-    ensures ran { MatchResult result (λ _. Ran (terms (R.shares rule) R.STEP (cut_by sheet) members first) (new_world members first file.old) (map (deed_of B.month B.count B.held) orders.now) outcomes.new statements.old statements.new (standing_of ledger.new file.new)) (λ _. (ledger.new ≡ ledger.old) × (file.new ≡ file.old) × (statements.new ≡ statements.old) × (outcomes.new ≡ outcomes.old)) }
+    ensures ran { MatchResult result (λ _. Ran (terms (R.shares rule) R.STEP (cut_by sheet) members first) (new_world members first file.old) (map (deed_of B.Book) orders.now) outcomes.new statements.old statements.new (standing_of ledger.new file.new)) (λ _. (ledger.new ≡ ledger.old) × (file.new ≡ file.old) × (statements.new ≡ statements.old) × (outcomes.new ≡ outcomes.old)) }
     ensures same { OnOk result ((ledger.new.rule ≡ rule) × (ledger.new.sheet ≡ sheet)) }
 {
     if outcomes.len() != orders.len() || !cells_fit(statements.len(), orders.len(), members) {

@@ -28,7 +28,7 @@ impl<R: Rule> Ledger<R> {
         ensures standing { standing_of self.new file.new ≡ after (bill_of self.old file.old (reading_of B.Book book.now) statement.old) (λ left. left.standing) (standing_of self.old file.old) }
         ensures cells { statement.new ≡ after (bill_of self.old file.old (reading_of B.Book book.now) statement.old) (λ left. left.cells) statement.old }
         ensures same { (self.new.rule ≡ self.old.rule) × (self.new.sheet ≡ self.old.sheet) }
-        ensures law { (h : History) → Kept (terms_of R.shares R.STEP self.old) h (standing_of self.old file.old) → MatchResult result (λ _. Kept (terms_of R.shares R.STEP self.old) (billed (reading_of B.Book book.now) statement.new ∷ h) (standing_of self.new file.new)) (λ _. Kept (terms_of R.shares R.STEP self.old) h (standing_of self.new file.new)) }
+        ensures law { (h : History) → Kept (terms_of self.old) h (standing_of self.old file.old) → MatchResult result (λ _. Kept (terms_of self.old) (billed (reading_of B.Book book.now) statement.new ∷ h) (standing_of self.new file.new)) (λ _. Kept (terms_of self.old) h (standing_of self.new file.new)) }
     {
         let costs = self.sheet.costs(&self.heads);
         let charges = charge_book(&self.rule, &self.accounts, costs, book, file, statement)?;

@@ -23,7 +23,7 @@ impl<R: Rule> Ledger<R> {
         ensures amounts { IfErr result (λ unbooked. unbooked.amounts ≡ voucher.amounts) }
         ensures heads { self.new.heads.amounts ≡ after (book_rule self.old.heads.amounts voucher.amounts) (λ sums. sums) self.old.heads.amounts }
         ensures same { (self.new.rule ≡ self.old.rule) × (self.new.sheet ≡ self.old.sheet) × (self.new.accounts ≡ self.old.accounts) }
-        ensures law { (h : History) (file : List Line) → Kept (terms_of R.shares R.STEP self.old) h (standing_of self.old file) → MatchResult result (λ _. Kept (terms_of R.shares R.STEP self.old) (booked voucher.amounts ∷ h) (standing_of self.new file)) (λ _. Kept (terms_of R.shares R.STEP self.old) h (standing_of self.new file)) }
+        ensures law { (h : History) (file : List Line) → Kept (terms_of self.old) h (standing_of self.old file) → MatchResult result (λ _. Kept (terms_of self.old) (booked voucher.amounts ∷ h) (standing_of self.new file)) (λ _. Kept (terms_of self.old) h (standing_of self.new file)) }
     {
         let amounts = voucher.spend();
         self.heads

@@ -31,7 +31,7 @@ impl<R: Rule + Drop> Ledger<R> {
     pub fn open(&mut self, rule: R, sheet: Sheet, members: u32, first: u32) -> Result<(), Fault>
         ensures told { answer result ≡ bare (open_rule members first) }
         ensures after { MatchResult result (λ _. (self.new.rule ≡ rule) × (self.new.sheet ≡ sheet) × (self.new.heads.amounts ≡ no_heads) × (self.new.accounts ≡ opened members first)) (λ _. self.new ≡ self.old) }
-        ensures law { OnOk result ((file : List Line) → Kept (terms_of R.shares R.STEP self.new) [] (standing_of self.new file)) }
+        ensures law { OnOk result ((file : List Line) → Kept (terms_of self.new) [] (standing_of self.new file)) }
     {
         if !(1..=200).contains(&members) {
             return Err(Layer::Ledger.refuses(Refusal::Count));

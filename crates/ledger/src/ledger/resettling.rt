@@ -42,7 +42,7 @@ impl<R: Rule> Ledger<R> {
         ensures standing { standing_of self.new file.new ≡ after (resettling_of self.old file.old (reading_of B.Book book.now) component statement.old) (λ left. left.standing) (standing_of self.old file.old) }
         ensures cells { statement.new ≡ after (resettling_of self.old file.old (reading_of B.Book book.now) component statement.old) (λ left. left.cells) statement.old }
         ensures same { (self.new.rule ≡ self.old.rule) × (self.new.sheet ≡ self.old.sheet) }
-        ensures law { (h : History) → Kept (terms_of R.shares R.STEP self.old) h (standing_of self.old file.old) → MatchResult result (λ _. Kept (terms_of R.shares R.STEP self.old) (resettled (component - 1) (reading_of B.Book book.now) statement.new ∷ h) (standing_of self.new file.new)) (λ _. Kept (terms_of R.shares R.STEP self.old) h (standing_of self.new file.new)) }
+        ensures law { (h : History) → Kept (terms_of self.old) h (standing_of self.old file.old) → MatchResult result (λ _. Kept (terms_of self.old) (resettled (component - 1) (reading_of B.Book book.now) statement.new ∷ h) (standing_of self.new file.new)) (λ _. Kept (terms_of self.old) h (standing_of self.new file.new)) }
     {
         let Some(component) = reconciled(component) else {
             return Err(Layer::Ledger.refuses(Refusal::Kind));

@@ -16,4 +16,4 @@ returns-clause-carried g c =
     let r = c.book.result in
     let p = c.book.ensures in
     λ file. rw (mapped (λ _. ended.Booked) c.map_err.result c.map.result c.map.ensures.cases (λ v a q. search rules), booking_answers r c.map_err.result c.map_err.ensures.cases (λ u f q. search rules))
-    (vouched (terms_of g.R.Rule.shares g.R.Rule.STEP l) (standing_of l file) costs.control costs.amounts c.in_ok-voucher.voucher.amounts (standing_of c.book.new.self file) (book_rule l.heads.amounts c.in_ok-voucher.voucher.amounts) r (rw (← e) refl) p.told (rw (p.heads, p.same.2) refl) (λ h k. p.law h file k))
+    (vouched (terms_of l) (standing_of l file) costs.control costs.amounts c.in_ok-voucher.voucher.amounts (standing_of c.book.new.self file) (book_rule l.heads.amounts c.in_ok-voucher.voucher.amounts) r (rw (← e) refl) p.told (rw (p.heads, p.same.2) refl) (λ h k. p.law h file k))

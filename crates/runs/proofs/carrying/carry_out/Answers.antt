@@ -14,7 +14,7 @@ use Rattle.runs.proofs.carrying.carry_out.Goals as goal
 pub returns-in-Bill-clause-carried : goal.returns-in-Bill-clause-carried
 returns-in-Bill-clause-carried g c =
     let l = c.args.ledger.now in
-    let t = terms_of g.R.Rule.shares g.R.Rule.STEP l in
+    let t = terms_of l in
     let book = c.in-Bill.book in
     let b = reading (g.B.Book.month book) (g.B.Book.count book) (g.B.Book.held book) in
     let s = standing_of l c.args.file.now in
@@ -28,7 +28,7 @@ returns-in-Bill-clause-carried g c =
 pub returns-in-Resettle : goal.returns-in-Resettle
 returns-in-Resettle g c =
     let l = c.args.ledger.now in
-    let t = terms_of g.R.Rule.shares g.R.Rule.STEP l in
+    let t = terms_of l in
     let book = c.in-Resettle.book in
     let component = c.in-Resettle.component in
     let b = reading (g.B.Book.month book) (g.B.Book.count book) (g.B.Book.held book) in
@@ -50,4 +50,4 @@ returns-in-Resettle g c =
 pub returns-in-Book-clause-cells : goal.returns-in-Book-clause-cells
 returns-in-Book-clause-cells g c =
     let costs = c.in-Book.costs in
-    rw c.in-Book.is (none_written (terms_of g.R.Rule.shares g.R.Rule.STEP c.args.ledger.now) (standing_of c.args.ledger.now c.args.file.now) costs.control costs.amounts c.args.cells.now)
+    rw c.in-Book.is (none_written (terms_of c.args.ledger.now) (standing_of c.args.ledger.now c.args.file.now) costs.control costs.amounts c.args.cells.now)

@@ -15,12 +15,12 @@ returns g c =
     let file = c.args.file.now in
     let members = c.args.members in
     let first = c.args.first in
-    let deeds = map (deed_of g.B.Book.month g.B.Book.count g.B.Book.held) c.args.orders.now in
+    let deeds = map (deed_of g.B.Book) c.args.orders.now in
     let last = standing_of c.run_orders.new.ledger c.run_orders.new.file in
     let orders = length c.args.orders.now in
     let outcomes = length c.args.outcomes.now in
     let cells = length c.args.statements.now in
-    let t : terms_of g.R.Rule.shares g.R.Rule.STEP new ≡ terms (g.R.Rule.shares c.args.rule) g.R.Rule.STEP (cut_by c.args.sheet) members first = rw (o.0, o.1, o.3) refl in
+    let t : terms_of new ≡ terms (g.R.Rule.shares c.args.rule) g.R.Rule.STEP (cut_by c.args.sheet) members first = rw (o.0, o.1, o.3) refl in
     let s : standing_of new file ≡ standing no_heads (opened members first) file = rw (o.2, o.3) refl in
     let fits = and_from (eqb outcomes orders) (eqb cells (orders * (13 * members))) (eq-eqb outcomes orders c.if-outcomes-orders.false) (sym c.if-not-cells_fit.ensures) in
     record {

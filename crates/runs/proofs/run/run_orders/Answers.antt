@@ -11,8 +11,8 @@ use Rattle.runs.proofs.run.run_orders.Goals as goal
 pub loop-i-preserved : goal.loop-i-preserved
 loop-i-preserved g c =
     let l = c.args.ledger.now in
-    let t = terms_of g.R.Rule.shares g.R.Rule.STEP l in
-    let deed = deed_of g.B.Book.month g.B.Book.count g.B.Book.held in
+    let t = terms_of l in
+    let deed = deed_of g.B.Book in
     let orders = c.args.orders.now in
     let i = c.loop-i.i in
     let r = c.members.result in
@@ -20,7 +20,7 @@ loop-i-preserved g c =
     let p = c.carry_out.ensures in
     let d = deed c.index-orders-i.result in
     let s = standing_of c.loop-i.ledger c.loop-i.file in
-    let same : terms_of g.R.Rule.shares g.R.Rule.STEP c.loop-i.ledger ≡ t = rw (inv.0, inv.1, inv.2.kept.peopled, inv.2.kept.begun) refl in
+    let same : terms_of c.loop-i.ledger ≡ t = rw (inv.0, inv.1, inv.2.kept.peopled, inv.2.kept.begun) refl in
     let out = subst (λ (u : Terms). CarriedOut u d s (standing_of c.carry_out.new.ledger c.carry_out.new.file) (answer c.carry_out.result)) same p.carried in
     let row = p.cells ∙ ap (λ (u : Terms). cells_after u s d (take (i * (13 * r) + 13 * r - i * (13 * r)) (drop (i * (13 * r)) c.loop-i.statements))) same in
     let n = length-map orders deed in (

@@ -8,4 +8,4 @@ use Rattle.runs.proofs.run.run_orders.Given as goal
 abbrev pub invariant-loop-i : goal.invariant-loop-i
 invariant-loop-i g l =
     (l.ledger.rule ≡ l.initial.ledger.rule) × (l.ledger.sheet ≡ l.initial.ledger.sheet)
-    × Running (terms_of g.R.Rule.shares g.R.Rule.STEP l.initial.ledger) (record { stands = standing_of l.initial.ledger l.initial.file; history = [] }) (map (deed_of g.B.Book.month g.B.Book.count g.B.Book.held) l.orders) l.i l.outcomes l.initial.statements l.statements (standing_of l.ledger l.file)
+    × Running (terms_of l.initial.ledger) (record { stands = standing_of l.initial.ledger l.initial.file; history = [] }) (map (deed_of g.B.Book) l.orders) l.i l.outcomes l.initial.statements l.statements (standing_of l.ledger l.file)

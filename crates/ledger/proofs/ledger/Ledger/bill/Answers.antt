@@ -58,7 +58,7 @@ returns-clause-law g c =
     let told = ap done ec ∙ ap (λ (t : Told Left). next t (λ left. done left.components)) done' in
     let stands = es ∙ ap (λ (t : Told Left). after t (λ left. left.standing) s) done' in
     let cells = ew ∙ ap (λ (t : Told Left). after t (λ left. left.cells) memory) done' in
-    let rule : LawfulRule (terms_of g.R.Rule.shares g.R.Rule.STEP self) = record { stepped = g.met.R.Rule.stepped; long = g.met.R.Rule.long self.rule; idle = g.met.R.Rule.idle self.rule; fair = g.met.R.Rule.fair self.rule } in
+    let rule : LawfulRule (terms_of self) = record { stepped = g.met.R.Rule.stepped; long = g.met.R.Rule.long self.rule; idle = g.met.R.Rule.idle self.rule; fair = g.met.R.Rule.fair self.rule } in
     let whole = ap sum_z (sym value) ∙ c.costs-costs.ensures.whole in
     let thirteen : length (cut self.heads.amounts) ≡ 13 = ap length (sym value) ∙ search rules in
-    λ h k. bill_keeps (terms_of g.R.Rule.shares g.R.Rule.STEP self) rule h s (standing c.zero-self.result.amounts c.close.new.self c.charge_book.new.file) b memory c.charge_book.new.statement (Ok charges) (g.met.B.Book.peopled book).0 (g.met.B.Book.peopled book).1 whole thirteen (search rules) self.slots told stands cells k
+    λ h k. bill_keeps (terms_of self) rule h s (standing c.zero-self.result.amounts c.close.new.self c.charge_book.new.file) b memory c.charge_book.new.statement (Ok charges) (g.met.B.Book.peopled book).0 (g.met.B.Book.peopled book).1 whole thirteen (search rules) self.slots told stands cells k

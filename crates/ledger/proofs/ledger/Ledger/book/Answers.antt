@@ -12,4 +12,4 @@ returns-clause-law g c =
     let v = c.args.voucher in
     let told : booking_told c.map_err.result ≡ bare (book_rule self.heads.amounts v.amounts) = search rules in
     let heads : c.book.new.self.amounts ≡ after (book_rule self.heads.amounts v.amounts) (λ sums. sums) self.heads.amounts = search rules in
-    λ h file k. booking_keeps (terms_of g.R.Rule.shares g.R.Rule.STEP self) h (standing_of self file) v.amounts c.book.new.self.amounts c.map_err.result (omega (arith, self.heads.long)) told heads k
+    λ h file k. booking_keeps (terms_of self) h (standing_of self file) v.amounts c.book.new.self.amounts c.map_err.result (omega (arith, self.heads.long)) told heads k

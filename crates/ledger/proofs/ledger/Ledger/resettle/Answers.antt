@@ -52,7 +52,7 @@ returns-clause-law g c =
     let p = reconciled_place component r in
     let m : done tt ≡ memory_rule a.members (length file) (length memory) a.members b.count = c.in_ok-check_memory.ensures in
     let o : is_on_file a b.month ≡ true = sym (c.if-not-is_on_file.ensures ∙ ap (is_on_file a) c.month.ensures) in
-    let rule : LawfulRule (terms_of g.R.Rule.shares g.R.Rule.STEP self) = record { stepped = g.met.R.Rule.stepped; long = g.met.R.Rule.long self.rule; idle = g.met.R.Rule.idle self.rule; fair = g.met.R.Rule.fair self.rule } in
+    let rule : LawfulRule (terms_of self) = record { stepped = g.met.R.Rule.stepped; long = g.met.R.Rule.long self.rule; idle = g.met.R.Rule.idle self.rule; fair = g.met.R.Rule.fair self.rule } in
     let change : ℕ → Told ℤ = λ n. change_rule n (units_read b i) (shares_again sh a b i) (account_at a i).balance (lines_at a file b i) in
     let left = c.in_ok-left.left in
     let z = to_z-of_z w64 left (search rules) in
@@ -64,4 +64,4 @@ returns-clause-law g c =
     let told = ap bare d in
     let stands = ap (λ (x : Accounts). standing self.heads.amounts x c.resettle_lines.new.file) e ∙ ap (λ (f : List Line). standing self.heads.amounts (settled i left a) f) q.0 ∙ ap (λ (t : Told Left). after t (λ left. left.standing) s) d in
     let cells = q.1 ∙ ap (λ (t : Told Left). after t (λ left. left.cells) memory) d in
-    λ h k. resettle_keeps (terms_of g.R.Rule.shares g.R.Rule.STEP self) rule h s new b component memory c.resettle_lines.new.statement (Ok tt) (search rules) told stands cells k
+    λ h k. resettle_keeps (terms_of self) rule h s new b component memory c.resettle_lines.new.statement (Ok tt) (search rules) told stands cells k
