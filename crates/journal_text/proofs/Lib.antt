@@ -1,0 +1,6 @@
+pub mod Components
+pub mod Counted
+pub mod Lines
+pub mod Months
+pub mod Reading
+pub mod Refused

@@ -1,0 +1,54 @@
+-- What a journal says: its entries in their order, or the first line that is refused.
+use Rattle.std.specs.Prelude.{ℕ, Bool, true, cond, List, [], ◌∷◌, Some, None, Option}
+use Rattle.refusal.specs.Answers.{Told, next}
+use Rattle.month_text.specs.declared.month.Month.{Month}
+use Rattle.month_text.specs.Numbers.{bind}
+use Rattle.month_text.specs.Ranges.{off_layout, out_of_range, or_else}
+use Rattle.month_text.specs.Months.{read_month}
+use Rattle.journal_text.specs.declared.entry.Action.{Action}
+use Rattle.journal_text.specs.declared.entry.Action.TheVariants.{Bill, Resettle}
+use Rattle.journal_text.specs.declared.entry.Entry.{Entry}
+use Rattle.journal_text.specs.Pieces.{Piece, lines, action_of, month_of, lines_on, pieces}
+use Rattle.journal_text.specs.Terms.{same_terms}
+
+-- a month's refusal is at that line of the whole journal
+abbrev pub at_line : {T : Type 0} → ℕ → Told T → Told T
+at_line line (Told.done v) = Told.done v
+at_line line (Told.refused n l p) = Told.refused n l (lines_on line p)
+
+-- nothing was billed before the first entry: a resettlement cannot be that one
+abbrev pub after_first : Option Entry → Action → Option Action
+after_first (Some first) a = Some a
+after_first None Bill = Some Bill
+after_first None (Resettle n) = None
+
+-- the first entry's terms bind the later ones
+abbrev pub terms_hold : Option Entry → Month → Bool
+terms_hold None m = true
+terms_hold (Some first) m = same_terms first.month m
+
+-- the entry of a piece: its own line, then its month's text, then its terms
+abbrev pub entry_of : Option Entry → Piece → Told Entry
+entry_of first p =
+    or_else (bind (action_of p.line) (after_first first)) (off_layout p.number) (λ a.
+    next (at_line p.number (read_month p.month)) (λ m.
+    cond (terms_hold first m) (Told.done (record { action = a; line = p.number; month = m })) (out_of_range p.number)))
+
+abbrev pub or_first : Option Entry → Entry → Entry
+or_first None e = e
+or_first (Some first) e = first
+
+-- the entries of all pieces, where one before them may be the first
+abbrev pub entries_of : Option Entry → List Piece → Told (List Entry)
+entries_of first [] = Told.done []
+entries_of first (p ∷ ps) =
+    next (entry_of first p) (λ e. next (entries_of (Some (or_first first e)) ps) (λ es. Told.done (e ∷ es)))
+
+-- a journal has an entry, and nothing stands before the first one
+abbrev pub journal_of : List ℕ → List Piece → Told (List Entry)
+journal_of [] (p ∷ ps) = entries_of None (p ∷ ps)
+journal_of [] [] = off_layout 1
+journal_of (c ∷ cs) ps = off_layout 1
+
+abbrev pub read_journal : List ℕ → Told (List Entry)
+read_journal text = journal_of (month_of (lines text)) (pieces 1 (lines text))

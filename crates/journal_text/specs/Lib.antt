@@ -1,0 +1,4 @@
+pub mod Answered
+pub mod Journals
+pub mod Pieces
+pub mod Terms
