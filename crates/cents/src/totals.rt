@@ -1,10 +1,11 @@
 //! Sums of amounts.
-ghost use Rattle.std.specs.Prelude.{◌≡◌};
+ghost use Rattle.std.specs.Prelude.{◌≡◌, ◌*◌, ◌^◌, ◌≤◌, length, unsigned_abs};
 ghost use Rattle.cents.specs.Cutting.{sum_z};
 
 /// The sum of amounts, in a type that holds it however many they are.
 pub fn sum_of(amounts: &[i64]) -> i128
-    ensures { result ≡ sum_z amounts.now }
+    ensures sum { result ≡ sum_z amounts.now }
+    ensures small { unsigned_abs result ≤ 2 ^ 63 * length amounts.now }
 {
     // A loop and not a `fold`: each sum so far is bounded by how many amounts it has
     let mut sum = 0i128;

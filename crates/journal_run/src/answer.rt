@@ -1,48 +1,41 @@
 //! The text that answers a journal.
-use crate::orders::{journal_orders, order_count};
-use crate::printing::order_text;
-use crate::running::{Ran, run_orders};
-use crate::sums::{Account, Sums};
+ghost use Rattle.std.specs.Prelude.{◌≡◌, IfOk, string_bytes};
+ghost use Rattle.journal_text.specs.Answered.{Answered};
+ghost use Rattle.journal_run.specs.Journals.{entries_text, journal_text, answer_text};
+
+use crate::orders::journal_orders;
+use crate::running::run_orders;
+use crate::text::ran_text;
 use charges_text::refusals::refusal_text;
 use journal_text::entry::Entry;
 use journal_text::reader::read_journal;
 use journal_text::unread::Unread;
 use std::alloc::{AllocError, Global};
-use std::iter;
 
-/// What every order of the entries came to, and the sums.
-fn ran_text(heap: Global, entries: &[Entry], ran: &Ran) -> Result<String, AllocError> {
-    let mut text = String::new(heap);
-    let mut sums = Sums::default();
-    let ordered = entries
-        .iter()
-        .flat_map(|entry| iter::repeat_n(entry, order_count(entry)));
-    let statements = ran.statements.chunks_exact(ran.width);
-    for ((entry, outcome), cells) in ordered.zip(ran.outcomes.iter()).zip(statements) {
-        let part = order_text(heap, entry, *outcome, cells)?;
-        text.push_str(part.as_str())?;
-        sums.add(entry, *outcome, cells);
-    }
-    let account = Account {
-        sums,
-        balances: ran.balances,
-        waiting: ran.waiting,
+/// Runs the orders of all entries on a ledger that the first month opens, and prints last.
+fn entries_text(heap: Global, entries: &[Entry]) -> Result<String, Unread>
+    ensures { Answered (λ text. string_bytes text) result (entries_text entries.now) }
+{
+    let Some(first) = entries.first() else {
+        return Ok(String::new(heap));
     };
-    write!(text, "{account}")?;
-    Ok(text)
+    let given = journal_orders(heap, entries)?;
+    let ran = run_orders(heap, &first.month, given.orders.as_slice())?;
+    Ok(ran_text(heap, given.entries.as_slice(), &ran)?)
 }
 
-/// Reads all entries, runs all orders, and prints last.
-fn run_journal(heap: Global, text: &[u8]) -> Result<String, Unread> {
+/// Reads all entries, and runs their orders.
+fn run_journal(heap: Global, text: &[u8]) -> Result<String, Unread>
+    ensures { Answered (λ said. string_bytes said) result (journal_text text.now) }
+{
     let entries = read_journal(heap, text)?;
-    let first = &entries[0];
-    let orders = journal_orders(heap, entries.as_slice())?;
-    let ran = run_orders(heap, &first.month, orders.as_slice())?;
-    Ok(ran_text(heap, entries.as_slice(), &ran)?)
+    entries_text(heap, entries.as_slice())
 }
 
 /// What a journal came to, or the line of its refusal.
-pub fn answer(heap: Global, text: &[u8]) -> Result<String, AllocError> {
+pub fn answer(heap: Global, text: &[u8]) -> Result<String, AllocError>
+    ensures { IfOk result (λ said. string_bytes said ≡ answer_text text.now) }
+{
     match run_journal(heap, text) {
         Ok(text) => Ok(text),
         Err(Unread::Line(fault)) => refusal_text(heap, fault),

@@ -2,7 +2,9 @@
 #![tactic(auto)]
 
 pub mod answer;
+mod given;
 mod orders;
 mod printing;
 mod running;
 mod sums;
+mod text;

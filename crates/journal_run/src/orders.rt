@@ -1,42 +1,44 @@
 //! The orders that a journal's entries give.
-use bottom_books::fact_book::FactBook;
+ghost use Rattle.std.specs.Prelude.{◌≡◌, ◌++◌, length, IfOk, OnOk};
+ghost use Rattle.refusal.specs.Answers.{done, next};
+ghost use Rattle.month_bill.specs.Members.{month_units};
+ghost use Rattle.journal_text.specs.Answered.{Answered};
+ghost use Rattle.journal_run.specs.Deeds.{given_by, orders_of};
+ghost use Rattle.journal_run.specs.Meanings.{ordered};
+
+use crate::given::Given;
 use journal_text::entry::{Action, Entry};
 use journal_text::unread::Unread;
 use month_bill::members::month_book;
 use runs::order::{Costs, Order};
 use std::alloc::Global;
 
-/// How many orders an entry gives; it must agree with `give_orders`.
-pub(crate) fn order_count(entry: &Entry) -> usize {
-    match entry.action {
-        Action::Bill => 2,
-        Action::Resettle(_) => 1,
-    }
-}
-
 /// A bill books its costs first; the costs of a resettlement were booked with their bill.
-fn give_orders(entry: &Entry, orders: &mut Vec<Order<FactBook>>) -> Result<(), Unread> {
+fn give_orders<'a>(entry: &'a Entry, given: &mut Given<'a>) -> Result<(), Unread>
+    requires { length given.old.entries.items ≡ length given.old.orders.items }
+    ensures told { Answered (λ _. ordered given.new.entries.items given.new.orders.items) result (next (month_units entry.now.month) (λ rows. done (ordered given.old.entries.items given.old.orders.items ++ given_by entry.now rows))) }
+    ensures paired { OnOk result (length given.new.entries.items ≡ length given.new.orders.items) }
+{
     let book = month_book(&entry.month)?;
     match entry.action {
         Action::Bill => {
             let control = entry.month.control;
             let amounts = entry.month.cost;
-            orders.push(Order::Book(Costs { control, amounts }))?;
-            orders.push(Order::Bill(book))?;
+            given.push(entry, Order::Book(Costs { control, amounts }))?;
+            given.push(entry, Order::Bill(book))
         }
-        Action::Resettle(component) => orders.push(Order::Resettle(component, book))?,
+        Action::Resettle(component) => given.push(entry, Order::Resettle(component, book)),
     }
-    Ok(())
 }
 
-/// The orders of all entries.
-pub(crate) fn journal_orders(
-    heap: Global,
-    entries: &[Entry],
-) -> Result<Vec<Order<FactBook>>, Unread> {
-    let mut orders = Vec::new(heap);
+/// The orders of all entries, each beside the entry that gives it.
+pub(crate) fn journal_orders(heap: Global, entries: &[Entry]) -> Result<Given<'_>, Unread>
+    ensures told { Answered (λ given. ordered given.entries.items given.orders.items) result (orders_of entries.now) }
+    ensures paired { IfOk result (λ given. length given.entries.items ≡ length given.orders.items) }
+{
+    let mut given = Given::new(heap);
     for entry in entries {
-        give_orders(entry, &mut orders)?;
+        give_orders(entry, &mut given)?;
     }
-    Ok(orders)
+    Ok(given)
 }

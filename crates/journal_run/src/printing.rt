@@ -1,10 +1,15 @@
 //! What is printed for an order.
+ghost use Rattle.std.specs.Prelude.{◌≡◌, ◌≤◌, IfOk, Some, string_bytes};
+ghost use Rattle.charges_text.specs.Printed.{printed};
+ghost use Rattle.month_bill.specs.Members.{member_rows};
+ghost use Rattle.journal_run.specs.Outcomes.{members_of, resettled_text, outcome_text};
+
 use charges_text::charges::ComponentCharge;
 use charges_text::printer::charges_text;
 use charges_text::refusals::refusal_text;
 use journal_text::entry::{Action, Entry};
 use month_bill::members::member_rows;
-use month_text::month::Month;
+use month_text::month::{Member, Month};
 use refusal::Fault;
 use runs::done::Done;
 use std::alloc::{AllocError, Global};
@@ -16,30 +21,35 @@ fn bill_text(
     month: &Month,
     components: [ComponentCharge; 13],
     statement: &[i64],
-) -> Result<String, AllocError> {
+) -> Result<String, AllocError>
+    requires { month.now.count ≤ 32 }
+    ensures { IfOk result (λ t. string_bytes t ≡ printed month.now.month components (member_rows statement.now 0 (members_of month.now))) }
+{
     let rows = member_rows(month.members, statement);
-    let members = rows.get(0..month.count).unwrap_or(&[]);
-    charges_text(heap, month.month, components, members)
+    charges_text(heap, month.month, components, &rows[0..month.count])
 }
 
 /// A resettlement's month and component, and what each member pays or gets back.
 #[derive(Clone, Copy)]
 struct Resettled<'a> {
+    month: u32,
     component: u32,
-    month: &'a Month,
+    members: &'a [Member],
     cells: &'a [i64],
 }
 
 impl fmt::Display for Resettled<'_> {
+    ghost output = { λ r. Some (resettled_text r.month r.component r.members.now r.cells.now) };
+
     fn fmt<W: fmt::Write>(&self, f: &mut fmt::Formatter<W>) -> fmt::Result {
         let Resettled {
-            component,
             month,
+            component,
+            members,
             cells,
         } = *self;
-        let number = month.month;
-        writeln!(f, "resettled={number},{component}")?;
-        for (member, cents) in month.members.iter().zip(cells.iter()).take(month.count) {
+        writeln!(f, "resettled={month},{component}")?;
+        for (member, cents) in members.iter().zip(cells) {
             let account = member.account;
             writeln!(f, "difference={account},{cents}")?;
         }
@@ -53,14 +63,18 @@ pub(crate) fn order_text(
     entry: &Entry,
     outcome: Result<Done, Fault>,
     cells: &[i64],
-) -> Result<String, AllocError> {
+) -> Result<String, AllocError>
+    requires { entry.now.month.count ≤ 32 }
+    ensures { IfOk result (λ t. string_bytes t ≡ outcome_text entry.now outcome cells.now) }
+{
+    let month = &entry.month;
     match (outcome, entry.action) {
-        (Ok(Done::Billed(components)), _) => bill_text(heap, &entry.month, components, cells),
+        (Ok(Done::Billed(components)), _) => bill_text(heap, month, components, cells),
         (Ok(Done::Resettled), Action::Resettle(component)) => {
-            let month = &entry.month;
             let resettled = Resettled {
+                month: month.month,
                 component,
-                month,
+                members: &month.members[0..month.count],
                 cells,
             };
             format!(in heap; "{resettled}")

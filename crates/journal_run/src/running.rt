@@ -1,5 +1,10 @@
 //! The run of a journal's orders on one ledger.
-ghost use Rattle.std.specs.Prelude.{◌<◌};
+ghost use Rattle.std.specs.Prelude.{◌≡◌, ◌*◌, ◌<◌, map, IfOk};
+ghost use Rattle.refusal.specs.Answers.{bare};
+ghost use Rattle.journal_text.specs.Answered.{Answered};
+ghost use Rattle.journal_run.specs.Deeds.{opens, opening, terms_by, month_terms, first_world};
+ghost use Rattle.journal_run.specs.Meanings.{meant};
+ghost use Rattle.journal_run.specs.Runs.{RunOf};
 
 use bottom_books::fact_book::FactBook;
 use journal_text::unread::Unread;
@@ -34,7 +39,11 @@ fn run_by<R: Rule + Copy + Drop>(
     rule: R,
     first: &Month,
     orders: &[Order<FactBook>],
-) -> Result<Ran, Unread> {
+) -> Result<Ran, Unread>
+    ensures told { Answered (λ _. tt) result (bare (opens first.now)) }
+    ensures ran { IfOk result (λ ran. RunOf (terms_by (R.shares rule) R.STEP first.now) (first_world first.now) (map meant orders.now) ran.outcomes.items ran.statements.items ran.balances ran.waiting) }
+    ensures wide { IfOk result (λ ran. ran.width ≡ 13 * first.now.count) }
+{
     let members = first.count;
     if members == 0 || members > 32 {
         return Err(Unread::Line(Layer::Ledger.refuses(Refusal::Count)));
@@ -74,7 +83,11 @@ pub(crate) fn run_orders(
     heap: Global,
     first: &Month,
     orders: &[Order<FactBook>],
-) -> Result<Ran, Unread> {
+) -> Result<Ran, Unread>
+    ensures told { Answered (λ _. month_terms first.now) result (opening first.now) }
+    ensures ran { IfOk result (λ ran. RunOf (month_terms first.now) (first_world first.now) (map meant orders.now) ran.outcomes.items ran.statements.items ran.balances ran.waiting) }
+    ensures wide { IfOk result (λ ran. ran.width ≡ 13 * first.now.count) }
+{
     // Each rule has its own constant STEP, so one type cannot stand for both.
     match first.rule {
         RuleName::Posted => run_by(heap, Posted, first, orders),

@@ -14,7 +14,7 @@ module _ (g : given.Over) (c : goal.After-sum_of g) where
   shares_sum : c.sum_of.result ≡ sum_z (g.R.Rule.shares c.args.rule.now c.args.pool c.args.units)
   shares_sum =
       let o : c.share.new.out ≡ g.R.Rule.shares c.args.rule.now c.args.pool c.args.units = grind (arith, common_steps) in
-      c.sum_of.ensures ∙ ap sum_z o
+      c.sum_of.ensures.sum ∙ ap sum_z o
 
   small : nat_abs c.sum_of.result ≤ 5000000003
   small =

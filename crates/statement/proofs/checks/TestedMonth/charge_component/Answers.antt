@@ -31,7 +31,7 @@ module _ (g : given.Over) (c : goal.After-sum_of g) where
   unfolding pool us ss
   summed =
       let told : c.share.new.out ≡ charge (g.R.Rule.shares c.args.rule.now) c.args.self.now.pools c.args.self.now.units.rows.now c.args.component.place = search rules in
-      c.sum_of.ensures ∙ ap sum_z told
+      c.sum_of.ensures.sum ∙ ap sum_z told
 
   small : nat_abs (sum_z ss) ≤ 5000000200
   unfolding us ss

@@ -1,0 +1,14 @@
+pub mod Accepted
+pub mod Alike
+pub mod Carried
+pub mod Differences
+pub mod Ended
+pub mod Figures
+pub mod Giving
+pub mod Held
+pub mod Joined
+pub mod Owners
+pub mod Pairs
+pub mod Progress
+pub mod Rows
+pub mod Whole

@@ -1,0 +1,7 @@
+pub mod Deeds
+pub mod Meanings
+pub mod Runs
+pub mod Printed
+pub mod Outcomes
+pub mod Handed
+pub mod Journals
