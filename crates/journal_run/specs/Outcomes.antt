@@ -60,8 +60,8 @@ billed_by e (Err f) cells = pos 0
 abbrev pub agrees : ℤ → ℤ → ℤ → Bool
 agrees booked billed held = unsigned_abs (billed +ℤ held -ℤ booked) == 0
 
-abbrev pub said : Bool → List ℕ
-said agree = cond agree (codes "yes") (codes "no")
+abbrev pub yes_or_no : Bool → List ℕ
+yes_or_no agree = cond agree (codes "yes") (codes "no")
 
 abbrev pub account_lines : ℤ → ℤ → List ℤ → List ℤ → List ℕ
 account_lines booked billed balances waiting =
@@ -69,4 +69,4 @@ account_lines booked billed balances waiting =
     ++ (codes "\nbilled=" ++ (signed_decimal billed
     ++ (codes "\nbalances=" ++ (signed_decimal (sum_z balances)
     ++ (codes "\nwaiting=" ++ (signed_decimal (sum_z waiting)
-    ++ (codes "\nagree=" ++ (said (agrees booked billed (sum_z balances +ℤ sum_z waiting)) ++ codes "\n")))))))))
+    ++ (codes "\nagree=" ++ (yes_or_no (agrees booked billed (sum_z balances +ℤ sum_z waiting)) ++ codes "\n")))))))))

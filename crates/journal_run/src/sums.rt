@@ -1,6 +1,6 @@
 //! The sums that a journal ends with.
 ghost use Rattle.std.specs.Prelude.{◌≡◌, ◌+◌, ◌*◌, ◌^◌, ◌≤◌, ◌<◌, length, Some, ◌+ℤ◌, unsigned_abs};
-ghost use Rattle.journal_run.specs.Outcomes.{booked_by, billed_by, agrees, said, account_lines};
+ghost use Rattle.journal_run.specs.Outcomes.{booked_by, billed_by, agrees, yes_or_no, account_lines};
 
 use cents::totals::sum_of;
 use journal_text::entry::Entry;
@@ -67,8 +67,8 @@ fn agrees(booked: i128, billed: i128, held: i128) -> bool
 }
 
 /// How a test is printed.
-fn said(agree: bool) -> &'static str
-    ensures { result.now ≡ said agree }
+fn yes_or_no(agree: bool) -> &'static str
+    ensures { result.now ≡ yes_or_no agree }
 {
     if agree { "yes" } else { "no" }
 }
@@ -89,7 +89,7 @@ impl fmt::Display for Account {
         let Sums { booked, billed } = self.sums;
         let balances = sum_of(&self.balances);
         let waiting = sum_of(&self.waiting);
-        let agree = said(agrees(booked, billed, balances + waiting));
+        let agree = yes_or_no(agrees(booked, billed, balances + waiting));
         writeln!(f, "booked={booked}\nbilled={billed}")?;
         writeln!(f, "balances={balances}\nwaiting={waiting}\nagree={agree}")
     }
