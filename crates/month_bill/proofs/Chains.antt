@@ -1,8 +1,9 @@
 -- A month's steps on a new ledger, joined.
-use Rattle.std.proofs.Common.{◌≡◌, ℕ, ◌*◌, ◌≤◌, cond, eqb, List, [], ◌∷◌, ◌++◌, length, get_or, take, replicate, ℤ, pos, ◌+ℤ◌, sym, refl, ap, ◌∙◌, arith}
+use Rattle.std.proofs.Common.{◌≡◌, ℕ, ◌-◌, ◌*◌, ◌≤◌, cond, eqb, List, [], ◌∷◌, ◌++◌, length, get_or, take, replicate, ℤ, pos, ◌+ℤ◌, sym, refl, ap, ◌∙◌, arith}
 use borrow.Author.Differences.{ints}
+use Rattle.std.proofs.Math.Path.{fun_ext}
 use Rattle.std.proofs.lemmas.Bool.{cond-true, eq-eqb}
-use Rattle.std.proofs.lemmas.List.{length-append}
+use Rattle.std.proofs.lemmas.List.{length-append, take-replicate}
 use Rattle.refusal.specs.Answers.{Told, done, refused, next, after}
 use Rattle.refusal.specs.declared.Layer.{Layer}
 use Rattle.refusal.specs.declared.Layer.TheVariants as layer
@@ -17,7 +18,11 @@ use Rattle.charges_text.specs.declared.charges.ComponentCharge.{ComponentCharge}
 use Rattle.charges_text.specs.declared.charges.MemberCharge.{MemberCharge}
 use Rattle.statement.specs.Checks.{charge_rule}
 use Rattle.statement.specs.Charges.{Shares, components, cells}
+use Rattle.sharing.specs.declared.rule.Rule.{Ghosts}
 use Rattle.ledger.specs.declared.line.Line.{Line}
+use Rattle.ledger.specs.declared.ledger.Ledger.{Ledger}
+use Rattle.ledger.specs.Files.{no_line}
+use Rattle.ledger.specs.Ledgers.{bill_of}
 use Rattle.ledger.specs.declared.accounts.Accounts.{Accounts}
 use Rattle.ledger.specs.Readings.{Reading, rows_read}
 use Rattle.ledger.specs.Standings.{Standing, standing, opened, open_rule, balances}
@@ -88,24 +93,6 @@ module _ (shares : Shares) (cut : Cut) (heads : List ℤ) (a : Accounts) (file :
       ∙ ap (λ (t : Told (Unit {0})). next t (λ _. charged (bill_leaves shares cut s b))) checked
       ∙ ap (λ (ps : List ℤ). next (charge_rule (cut heads) (rows_read b) (13 * length (rows_read b))) (λ _. done (components shares ps (rows_read b) 13, member_rows (cells shares ps (rows_read b) 13) 0 members))) pools
 
-  -- accepted, its components and the members' cells are those of the month
-  bill_accepted : (charges : List ComponentCharge) (memory written : List ℤ) → done charges ≡ next (bill_rule shares cut s b width) (λ left. done left.components)
-      → written ≡ after (bill_rule shares cut s b width) (λ left. left.cells) memory
-      → done (charges, member_rows written 0 members) ≡ charge_members shares (cut heads) (rows_read b) members
-  bill_accepted charges memory written e w = held (bill_rule shares cut s b width) e w ∙ new_bill
-    where
-      held : (x : Told Left) → done charges ≡ next x (λ left. done left.components) → written ≡ after x (λ left. left.cells) memory → done (charges, member_rows written 0 members) ≡ next x charged
-      held (done left) e w = let d : charges ≡ left.components = cc in rw (d, w) refl
-      held (refused n l p) e w = absurd (done_refused charges n l p e)
-
-  -- refused, the refusal is the month's
-  bill_refused : (k : ℕ) (l : Layer) (p : ℕ) → refused k l p ≡ next (bill_rule shares cut s b width) (λ left. done left.components) → refused k l p ≡ charge_members shares (cut heads) (rows_read b) members
-  bill_refused k l p e = held (bill_rule shares cut s b width) e ∙ new_bill
-    where
-      held : (x : Told Left) → refused k l p ≡ next x (λ left. done left.components) → refused k l p ≡ next x charged
-      held (done left) e = absurd (refused_done k l p left.components e)
-      held (refused i j q) e = cc
-
 -- the same, where the sheet, the units of a month's book and its heads were accepted before
 module _ (shares : Shares) (m : Month) (d g s : List ℕ) (heads : List ℤ) (a : Accounts) (file : List Line) (b : Reading) (width members : ℕ)
     (sheet : done (d, g, s) ≡ month_sheet m) (units : done (rows_read b) ≡ month_units m) (booked : done heads ≡ next (open_rule members m.month) (λ _. month_heads m)) (new : a ≡ opened members m.month)
@@ -128,12 +115,34 @@ module _ (shares : Shares) (m : Month) (d g s : List ℕ) (heads : List ℤ) (a 
       last (done _) e = e
       last (refused n l p) e = absurd (done_refused heads n l p e)
 
-  pub month_accepted : (charges : List ComponentCharge) (memory written : List ℤ) → done charges ≡ next answers (λ left. done left.components) → written ≡ after answers (λ left. left.cells) memory
-      → done (charges, take m.count (member_rows written 0 m.members)) ≡ bill_by shares m
-  month_accepted charges memory written e w =
-      chained _ (ap (λ (rows : List MemberCharge). done (charges, rows)) (rows_take written 0 m.count m.members)
-      ∙ bill_accepted shares (costs d g s) heads a file b width m.month (take m.count m.members) opened_for (costs_long d g s heads) lines wide month low high charges memory written e w)
+  -- what a bill on that ledger charges is the month's bill
+  pub month_billed : (x : Told Charges) → b.count ≡ m.count → x ≡ next answers (λ left. done (left.components, take b.count (member_rows left.cells 0 m.members))) → x ≡ bill_by shares m
+  month_billed x same e =
+      let rows : (left : Left) → take b.count (member_rows left.cells 0 m.members) ≡ member_rows left.cells 0 (take m.count m.members) =
+      λ left. rows_take left.cells 0 b.count m.members ∙ ap (λ (n : ℕ). member_rows left.cells 0 (take n m.members)) same in
+      chained x
+      (e ∙ ap (λ (k : Left → Told Charges). next answers k) (fun_ext (λ left. ap (λ (paid : List MemberCharge). done (left.components, paid)) (rows left)))
+      ∙ new_bill shares (costs d g s) heads a file b width m.month (take m.count m.members) opened_for (costs_long d g s heads) lines wide month low high)
 
-  pub month_refused : (k : ℕ) (l : Layer) (p : ℕ) → refused k l p ≡ next answers (λ left. done left.components) → refused k l p ≡ bill_by shares m
-  month_refused k l p e =
-      chained _ (bill_refused shares (costs d g s) heads a file b width m.month (take m.count m.members) opened_for (costs_long d g s heads) lines wide month low high k l p e)
+-- a bill that was accepted, and one that was refused
+pub left_charged : (x y : Told Left) (n : ℕ) (charges : List ComponentCharge) (memory written : List ℤ) (members : List Member) → x ≡ y → done charges ≡ next x (λ left. done left.components)
+    → written ≡ after x (λ left. left.cells) memory → ◌≡◌ {A = Told Charges} (done (charges, take n (member_rows written 0 members))) (next y (λ left. done (left.components, take n (member_rows left.cells 0 members))))
+left_charged (done left) y n charges memory written members same e w = let d : charges ≡ left.components = cc in rw (← same, d, w) refl
+left_charged (refused k l p) y n charges memory written members same e w = absurd (done_refused charges k l p e)
+
+pub left_refused : {T : Type 0} (x y : Told Left) (g : Left → Told T) (k : ℕ) (l : Layer) (p : ℕ) → x ≡ y → refused k l p ≡ next x (λ left. done left.components) → refused k l p ≡ next y g
+left_refused (done left) y g k l p same e = absurd (refused_done k l p left.components e)
+left_refused (refused i j q) y g k l p same e = rw (← same) cc
+
+-- the front of a memory that holds one value
+front_of : {X : Type 0} (x : X) (most width count n : ℕ) → count ≡ n → width * n ≤ most → take (width * count - 0) (replicate most x) ≡ replicate (width * n) x
+front_of x most width count n e l =
+    ap (λ (k : ℕ). take (width * k - 0) (replicate most x)) e
+    ∙ ap (λ (k : ℕ). take k (replicate most x)) {x = width * n - 0} {y = width * n} (omega arith)
+    ∙ take-replicate (width * n) most x l
+
+-- memory with a place for each member of a text serves fewer of them too
+pub in_front : {R : Type 0} {G : Ghosts R} (l : Ledger R G) (b : Reading) (count : ℕ) → count ≡ b.count → b.count ≤ 32
+    → bill_of l (take (78 * count - 0) (replicate 2496 no_line)) b (take (13 * count - 0) (replicate 416 (pos 0))) ≡ bill_of l (replicate (78 * b.count) no_line) b (replicate (13 * b.count) (pos 0))
+in_front l b count e h =
+    rw (front_of no_line 2496 78 count b.count e (omega (arith, h)), front_of (pos 0) 416 13 count b.count e (omega (arith, h))) refl

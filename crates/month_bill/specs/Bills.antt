@@ -1,5 +1,5 @@
 -- A month's bill, from the month's values.
-use Rattle.std.specs.Prelude.{ℕ, ◌*◌, List, length, take, ℤ}
+use Rattle.std.specs.Prelude.{ℕ, ◌*◌, List, length, replicate, take, ℤ, pos}
 use Rattle.refusal.specs.Answers.{Told, done, next}
 use Rattle.tariff.specs.Sheets.{sheet_rule}
 use Rattle.tariff.specs.Heads.{book_rule}
@@ -15,6 +15,11 @@ use Rattle.charges_text.specs.declared.charges.ComponentCharge.{ComponentCharge}
 use Rattle.charges_text.specs.declared.charges.MemberCharge.{MemberCharge}
 use Rattle.statement.specs.Checks.{charge_rule}
 use Rattle.statement.specs.Charges.{Shares, components, cells}
+use Rattle.sharing.specs.declared.rule.Rule.{Ghosts}
+use Rattle.ledger.specs.declared.ledger.Ledger.{Ledger}
+use Rattle.ledger.specs.Files.{no_line}
+use Rattle.ledger.specs.Ledgers.{bill_of}
+use Rattle.ledger.specs.Readings.{Reading}
 use Rattle.ledger.specs.Standings.{no_heads}
 use Rattle.month_bill.specs.Members.{month_units, member_rows}
 
@@ -47,3 +52,9 @@ shares_of Ratio = ratio
 
 abbrev pub bill_month : Month → Told (List ComponentCharge × List MemberCharge)
 bill_month m = bill_by (shares_of m.rule) m
+
+-- what a ledger's bill by a book charges the book's members, with a month file that holds nothing
+abbrev pub bill_alone : {R : Type 0} → {G : Ghosts R} → Ledger R G → Reading → List Member → Told (List ComponentCharge × List MemberCharge)
+bill_alone l b members =
+    next (bill_of l (replicate (78 * b.count) no_line) b (replicate (13 * b.count) (pos 0))) (λ left.
+    done (left.components, take b.count (member_rows left.cells 0 members)))
