@@ -17,17 +17,13 @@ use Rattle.journal_run.specs.Meanings.{meant, ordered}
 use Rattle.journal_run.specs.Runs.{blank_cells, RunOf}
 use Rattle.journal_run.specs.Printed.{orders_text, account_text}
 use Rattle.journal_run.specs.Journals.{entries_text}
-use Rattle.journal_run.specs.Handed.{Few, Gives, AllGiven, deeds_of, Handed}
+use Rattle.journal_run.specs.Handed.{Each, Few, Gives, deeds_of, Handed}
 use Rattle.journal_run.proofs.Ended.{shares_long}
-use Rattle.journal_run.proofs.Owners.{Each, each_given, owners_ordered, deeds_ordered}
+use Rattle.journal_run.proofs.Owners.{each_given, owners_ordered, deeds_ordered}
 
-few_owners : (orders : List Ordered) → Each (λ e d. e.month.count ≤ 32) orders → Few (map (λ o. o.0) orders)
+few_owners : (orders : List Ordered) → Each (λ (o : Ordered). o.0.month.count ≤ 32) orders → Few (map (λ o. o.0) orders)
 few_owners [] f = tt
 few_owners (o ∷ orders) f = (f.0, few_owners orders f.1)
-
-all_given : (orders : List Ordered) → Each Gives orders → AllGiven orders
-all_given [] f = tt
-all_given (o ∷ orders) f = (f.0, all_given orders f.1)
 
 module _ {M : Type 0} (entries : List Entry) (es : List (Bor Entry)) (os : List (Order (HeldBook M))) (told : done (ordered es os) ≡ orders_of entries) (n : length es ≡ length os) where
   pub few : Few (map (λ (e : Bor Entry). e.now) es)
@@ -43,7 +39,7 @@ module _ {M : Type 0} (entries : List Entry) (es : List (Bor Entry)) (os : List 
       let k : length (deeds_of orders) ≡ length orders = length-map orders (λ (o : Ordered). o.1) in
       record {
         long = shares_long m.rule;
-        given = all_given orders (each_given Gives (λ e few. refl) (λ e rows few. refl) (λ e component rows is few. (is, refl)) entries orders told);
+        given = each_given Gives (λ e few. refl) (λ e rows few. refl) (λ e component rows is few. (is, refl)) entries orders told;
         owned = sym (owners_ordered es os n);
         wide = wide;
         new = refl;

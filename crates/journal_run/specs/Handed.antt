@@ -15,10 +15,14 @@ use Rattle.runs.specs.Orders.{Deed, World, book, bill, resettle, run_through, an
 use Rattle.runs.specs.Runs.{no_deed, before}
 use Rattle.journal_run.specs.Deeds.{Ordered}
 
+-- a fact of each in a list
+abbrev pub Each : {X : Type 0} → (X → Type 0) → List X → Type 0
+Each fact [] = Unit {0}
+Each fact (x ∷ xs) = fact x × Each fact xs
+
 -- no month has more members than places
 abbrev pub Few : List Entry → Type 0
-Few [] = Unit {0}
-Few (e ∷ entries) = (e.month.count ≤ 32) × Few entries
+Few entries = Each (λ e. e.month.count ≤ 32) entries
 
 -- what a deed has from the entry that gives it
 abbrev pub Gives : Entry → Deed → Type 0
@@ -27,8 +31,7 @@ Gives e (bill b) = b.count ≡ e.month.count
 Gives e (resettle component b) = (e.action ≡ action.Resettle component) × (b.count ≡ e.month.count)
 
 abbrev pub AllGiven : List Ordered → Type 0
-AllGiven [] = Unit {0}
-AllGiven (o ∷ orders) = Gives o.0 o.1 × AllGiven orders
+AllGiven orders = Each (λ o. Gives o.0 o.1) orders
 
 abbrev pub owners_of : List Ordered → List Entry
 owners_of orders = map (λ o. o.0) orders
