@@ -1,7 +1,7 @@
 //! A tariff sheet: how division cost, management cost and the two split schedules are divided.
-ghost use Rattle.std.specs.Prelude.{◌≡◌, true, [], ◌∷◌, sum, MatchResult};
+ghost use Rattle.std.specs.Prelude.{◌≡◌, true, sum, MatchResult};
 ghost use Rattle.refusal.specs.Answers.{answer};
-ghost use Rattle.tariff.specs.Sheets.{thousandths, sheet_rule};
+ghost use Rattle.tariff.specs.Sheets.{thousandths, sheet_rule, Even};
 
 use cents::weights::{adds_up, each_at_most};
 use refusal::{Fault, Layer, Refusal};
@@ -21,9 +21,7 @@ pub struct Sheet {
 impl Sheet {
     /// A sheet that divides evenly: the place in which another sheet is laid.
     pub fn even() -> Sheet
-        ensures division { result.division ≡ 167 ∷ 167 ∷ 167 ∷ 167 ∷ 166 ∷ 166 ∷ [] }
-        ensures management { result.management ≡ 250 ∷ 250 ∷ 250 ∷ 250 ∷ [] }
-        ensures split { result.split ≡ 500 ∷ 500 ∷ [] }
+        ensures { Even result.division result.management result.split }
     {
         Sheet {
             division: [167, 167, 167, 167, 166, 166],

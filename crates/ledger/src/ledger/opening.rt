@@ -1,6 +1,7 @@
 //! Opening a ledger.
 ghost use Rattle.std.specs.Prelude.{◌≡◌, List, [], MatchResult, OnOk};
 ghost use Rattle.refusal.specs.Answers.{answer, bare};
+ghost use Rattle.tariff.specs.Sheets.{Even};
 ghost use Rattle.ledger.specs.declared.line.Line.{Line};
 ghost use Rattle.ledger.specs.Standings.{opened, open_rule, no_heads};
 ghost use Rattle.ledger.specs.Kept.{Kept};
@@ -17,6 +18,7 @@ impl<R: Rule + Drop> Ledger<R> {
     /// A ledger of one member with nothing in it: the place in which a ledger is opened.
     pub fn blank(rule: R) -> Ledger<R>
         ensures rule { result.rule ≡ rule }
+        ensures sheet { Even result.sheet.division result.sheet.management result.sheet.split }
         ensures accounts { (result.heads.amounts ≡ no_heads) × (result.accounts ≡ opened 1 24277) }
     {
         Ledger {
