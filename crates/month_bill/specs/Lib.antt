@@ -1,3 +1,4 @@
 pub mod Members
 pub mod Bills
 pub mod Outcome
+pub mod Late

@@ -1,9 +1,11 @@
 //! A month's bill.
 ghost use Rattle.std.specs.Prelude.{◌≡◌, ◌≤◌, take};
-ghost use Rattle.refusal.specs.Answers.{answer_by};
+ghost use Rattle.refusal.specs.Answers.{answer, answer_by};
 ghost use Rattle.bottom_books.specs.Tables.{cell};
 ghost use Rattle.ledger.specs.Readings.{reading};
+ghost use Rattle.month_text.specs.Accepted.{InRange};
 ghost use Rattle.month_bill.specs.Bills.{bill_alone, bill_by, bill_month};
+ghost use Rattle.month_bill.specs.Late.{OnlyLate};
 
 use crate::costs::{month_ledger, month_sheet};
 use crate::members::{member_rows, month_book};
@@ -60,7 +62,8 @@ fn bill_by<R: Rule + Copy + Drop>(rule: R, month: &Month) -> Result<Bill, Fault>
 
 /// Bills a month by its rule, on a new ledger.
 pub fn bill_month(month: &Month) -> Result<Bill, Fault>
-    ensures { answer_by (λ bill. (bill.components, take month.now.count bill.members)) result ≡ bill_month month.now }
+    ensures told { answer_by (λ bill. (bill.components, take month.now.count bill.members)) result ≡ bill_month month.now }
+    ensures late { InRange month.now → OnlyLate (answer result) }
 {
     // Each rule has its own constant STEP, so one type cannot stand for both.
     match month.rule {
