@@ -12,3 +12,4 @@ pub mod Pairs
 pub mod Progress
 pub mod Rows
 pub mod Whole
+pub mod Through

@@ -1,6 +1,6 @@
 -- What is printed in answer to a journal.
-use Rattle.std.specs.Prelude.{ℕ, List, [], ◌∷◌, ◌++◌, map}
-use Rattle.refusal.specs.Answers.{Told, done, next}
+use Rattle.std.specs.Prelude.{◌≡◌, ℕ, List, [], ◌∷◌, ◌++◌, map}
+use Rattle.refusal.specs.Answers.{Told, done, next, bare}
 use Rattle.journal_text.specs.declared.entry.Entry.{Entry}
 use Rattle.journal_text.specs.Journals.{read_journal}
 use Rattle.month_bill.specs.Outcome.{said}
@@ -20,6 +20,10 @@ entries_text (e ∷ entries) =
 -- the text is read, and its entries are run
 abbrev pub journal_text : List ℕ → Told (List ℕ)
 journal_text text = next (read_journal text) entries_text
+
+-- a journal that is read is run: nothing refuses it any more
+abbrev pub RunOnceRead : List ℕ → Type 0
+RunOnceRead text = (entries : List Entry) → read_journal text ≡ done entries → bare (entries_text entries) ≡ done tt
 
 -- the first refusal is printed instead
 abbrev pub answer_text : List ℕ → List ℕ

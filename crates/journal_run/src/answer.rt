@@ -1,7 +1,10 @@
 //! The text that answers a journal.
 ghost use Rattle.std.specs.Prelude.{◌≡◌, IfOk, string_bytes};
+ghost use Rattle.std.specs.List.{All};
+ghost use Rattle.refusal.specs.Answers.{done, bare};
+ghost use Rattle.month_text.specs.Accepted.{InRange};
 ghost use Rattle.journal_text.specs.Answered.{Answered};
-ghost use Rattle.journal_run.specs.Journals.{entries_text, journal_text, answer_text};
+ghost use Rattle.journal_run.specs.Journals.{entries_text, journal_text, RunOnceRead, answer_text};
 
 use crate::orders::journal_orders;
 use crate::running::run_orders;
@@ -14,7 +17,8 @@ use std::alloc::{AllocError, Global};
 
 /// Runs the orders of all entries on a ledger that the first month opens, and prints last.
 fn entries_text(heap: Global, entries: &[Entry]) -> Result<String, Unread>
-    ensures { Answered (λ text. string_bytes text) result (entries_text entries.now) }
+    ensures told { Answered (λ text. string_bytes text) result (entries_text entries.now) }
+    ensures run { All (λ entry. InRange entry.month) entries.now → bare (entries_text entries.now) ≡ done tt }
 {
     let Some(first) = entries.first() else {
         return Ok(String::new(heap));
@@ -26,7 +30,8 @@ fn entries_text(heap: Global, entries: &[Entry]) -> Result<String, Unread>
 
 /// Reads all entries, and runs their orders.
 fn run_journal(heap: Global, text: &[u8]) -> Result<String, Unread>
-    ensures { Answered (λ said. string_bytes said) result (journal_text text.now) }
+    ensures told { Answered (λ said. string_bytes said) result (journal_text text.now) }
+    ensures run { RunOnceRead text.now }
 {
     let entries = read_journal(heap, text)?;
     entries_text(heap, entries.as_slice())
@@ -34,7 +39,8 @@ fn run_journal(heap: Global, text: &[u8]) -> Result<String, Unread>
 
 /// What a journal came to, or the line of its refusal.
 pub fn answer(heap: Global, text: &[u8]) -> Result<String, AllocError>
-    ensures { IfOk result (λ said. string_bytes said ≡ answer_text text.now) }
+    ensures told { IfOk result (λ said. string_bytes said ≡ answer_text text.now) }
+    ensures run { RunOnceRead text.now }
 {
     match run_journal(heap, text) {
         Ok(text) => Ok(text),

@@ -4,3 +4,4 @@ pub mod Lines
 pub mod Months
 pub mod Reading
 pub mod Refused
+pub mod Ranged

@@ -22,5 +22,5 @@ OnlyLate (done v) = Unit {0}
 OnlyLate (refused n l p) = late_refusal n l ≡ true
 
 -- of a text's month, once it is read
-abbrev pub OnceRead : List ℕ → Type 0
-OnceRead text = (m : Month) → read_month text ≡ done m → OnlyLate (bill_month m)
+abbrev pub BillOnceRead : List ℕ → Type 0
+BillOnceRead text = (m : Month) → read_month text ≡ done m → OnlyLate (bill_month m)

@@ -2,7 +2,7 @@
 ghost use Rattle.std.specs.Prelude.{◌≡◌, ◌≤◌, take, IfOk, string_bytes};
 ghost use Rattle.refusal.specs.Answers.{answer_by};
 ghost use Rattle.charges_text.specs.Printed.{printed};
-ghost use Rattle.month_bill.specs.Late.{OnceRead};
+ghost use Rattle.month_bill.specs.Late.{BillOnceRead};
 ghost use Rattle.month_bill.specs.Outcome.{billed_text, answer_text};
 
 use crate::bill::{Bill, bill_month};
@@ -17,7 +17,7 @@ use std::alloc::{AllocError, Global};
 fn billed(text: &[u8]) -> Result<(Month, Bill), Fault>
     ensures told { answer_by (λ b. printed b.0.month b.1.components (take b.0.count b.1.members)) result ≡ billed_text text.now }
     ensures few { IfOk result (λ b. b.0.count ≤ 32) }
-    ensures late { OnceRead text.now }
+    ensures late { BillOnceRead text.now }
 {
     let month = read(text)?;
     let bill = bill_month(&month)?;
@@ -27,7 +27,7 @@ fn billed(text: &[u8]) -> Result<(Month, Bill), Fault>
 /// The charges of a month's text, or the line of its refusal.
 pub fn answer(heap: Global, text: &[u8]) -> Result<String, AllocError>
     ensures told { IfOk result (λ said. string_bytes said ≡ answer_text text.now) }
-    ensures late { OnceRead text.now }
+    ensures late { BillOnceRead text.now }
 {
     match billed(text) {
         Ok((month, bill)) => {

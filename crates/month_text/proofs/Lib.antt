@@ -7,3 +7,4 @@ pub mod Spelled
 pub mod Steps
 pub mod Taken
 pub mod TakenRows
+pub mod Ranged
