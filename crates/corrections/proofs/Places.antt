@@ -1,5 +1,5 @@
 -- The place of a pair among the fixes, and what a fix that is put there leaves.
-use Rattle.std.proofs.Common.{refl, ◌≡◌, ℕ, suc, ◌+◌, ◌<◌, ◌≤◌, max, Bool, true, false, cond, List, [], ◌∷◌, ◌++◌, ◌||◌, length, map, take, drop, set, is_some, nat_lt, position, Some, ap, ◌∙◌, arith, ⊎_elim}
+use Rattle.std.proofs.Common.{refl, ◌≡◌, ℕ, suc, ◌+◌, ◌<◌, ◌≤◌, max, true, false, cond, List, [], ◌∷◌, ◌++◌, ◌||◌, length, map, take, drop, set, is_some, nat_lt, position, Some, ap, ◌∙◌, arith, ⊎_elim}
 use Rattle.std.specs.Cmp.{IsEquivalence}
 use Rattle.std.specs.List.{IsDistinct, position_or_len}
 use Rattle.std.specs.Set.{distinct_count}
@@ -12,6 +12,8 @@ use Rattle.std.proofs.lemmas.Map.Keys.{IsDistinct-push}
 use Rattle.std.proofs.Math.Seq.{take-set-lt}
 use Rattle.book.specs.Correcting.{same_pair}
 use Rattle.corrections.specs.declared.fixes.Fix.{Fix}
+use Rattle.corrections.specs.declared.fixes.Fixes.{Fixes}
+use Rattle.corrections.specs.Kept.{kept, pairs}
 use Rattle.corrections.specs.Fixes.{Distinct, is_for, pair_of, seek}
 use Rattle.corrections.specs.Pairs.{among, pairs_with, takes_pair}
 
@@ -93,12 +95,11 @@ among_place (f ∷ fixes) kind member =
     (cases_Bool (is_for kind member f))
 
 -- as no pair stands twice, the pairs are as many as the fixes
-pub takes_place : (used : ℕ) (list : List Fix) (kind member : ℕ) → used ≤ length list → Distinct (take used list) → takes_pair (map pair_of (take used list)) (kind, member) ≡ (is_some (position (is_for kind member) (take used list)) || nat_lt used 64)
-takes_place used list kind member room d =
-    let n = distinct_count-from_IsDistinct same_pair_equiv (map pair_of (take used list)) d in
-    let m : distinct_count same_pair (map pair_of (take used list)) ≡ used = n ∙ length-map (take used list) pair_of ∙ length-take-le used list room in
-    let a = among_place (take used list) kind member in
-    rw (a, m) (grind (arith, common_steps))
+pub takes_kept : (s : Fixes) (kind member : ℕ) → takes_pair (pairs s) (kind, member) ≡ (is_some (position (is_for kind member) (kept s)) || nat_lt s.used 64)
+takes_kept s kind member =
+    let n : distinct_count same_pair (pairs s) ≡ s.used = distinct_count-from_IsDistinct same_pair_equiv (pairs s) s.distinct ∙ length-map (kept s) pair_of ∙ length-take-le s.used s.list (omega (arith, s.room, s.long)) in
+    let a = among_place (kept s) kind member in
+    rw (a, n) (grind (arith, common_steps))
 
 -- ---- the fixes after one is put at its pair's place, or after the others
 -- its pair is among the pairs and has its units, the others are as they were, and no pair stands twice

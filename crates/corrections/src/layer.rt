@@ -1,6 +1,6 @@
 //! The layer of corrections over a book. It keeps each corrected pair's units and means these, and
 //! the book's units for every other pair; the book below stays as it is.
-ghost use Rattle.std.specs.Prelude.{◌≡◌, [], ℕ, ◌≤◌, OnOk, MatchResult};
+ghost use Rattle.std.specs.Prelude.{◌≡◌, [], ℕ, OnOk, MatchResult};
 ghost use Rattle.refusal.specs.Answers.{answer, bare};
 ghost use Rattle.book.specs.Correcting.{correct_rule, corrected_units, kept_after};
 ghost use Rattle.corrections.specs.Kept.{kept, pairs, units_over};
@@ -78,7 +78,7 @@ impl<B: Book> Correctable for Corrections<B> {
     fn correct(&mut self, kind: u32, member: u32, amount: i64) -> Result<(), Fault>
         ensures told { answer result ≡ bare (correct_rule (B.count self.old.book) (units_over self.old.fixes (B.held self.old.book kind member) kind member) (takes_pair (pairs self.old.fixes) (kind, member)) kind member amount) }
         ensures kept { MatchResult result (λ _. (B.month self.new.book ≡ B.month self.old.book) × (B.count self.new.book ≡ B.count self.old.book)) (λ _. self.new ≡ self.old) }
-        ensures units { OnOk result ((k m : ℕ) → 1 ≤ k → units_over self.new.fixes (B.held self.new.book k m) k m ≡ corrected_units (units_over self.old.fixes (B.held self.old.book k m) k m) amount (k, m) (kind, member)) }
+        ensures units { OnOk result ((k m : ℕ) → units_over self.new.fixes (B.held self.new.book k m) k m ≡ corrected_units (units_over self.old.fixes (B.held self.old.book k m) k m) amount (k, m) (kind, member)) }
         ensures taken { OnOk result ((k m : ℕ) → among (pairs self.new.fixes) (k, m) ≡ kept_after (among (pairs self.old.fixes) (k, m)) (k, m) (kind, member)) }
         ensures pairs { OnOk result (pairs self.new.fixes ≡ pairs_with (pairs self.old.fixes) (kind, member)) }
         ensures below { self.new.book ≡ self.old.book }

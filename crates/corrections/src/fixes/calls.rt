@@ -46,6 +46,7 @@ impl Fixes {
     }
 
     /// Whether a pair is corrected already or there is room for one more.
+    #[tactic(auto, using(crate::proofs::Places::takes_kept))]
     pub(crate) fn takes(&self, pair: Pair) -> bool
         ensures { result ≡ takes_pair (pairs self.now) (pair.kind, pair.member) }
     {
@@ -53,6 +54,7 @@ impl Fixes {
     }
 
     /// Keeps a pair's units; refused where no place is left for a new pair, and then nothing changes.
+    #[tactic(auto, using(crate::proofs::Places::takes_kept))]
     pub(crate) fn put(&mut self, pair: Pair, units: u32) -> Result<(), Fault>
         requires { units ≤ 2000000000 }
         ensures told { answer result ≡ bare (taken_rule (takes_pair (pairs self.old) (pair.kind, pair.member)) units) }

@@ -1,4 +1,4 @@
-use Rattle.std.proofs.Common.{◌≤◌, arith}
+use Rattle.std.proofs.Common.{◌≤◌, arith, rules}
 use Rattle.std.specs.List.{IsDistinct}
 use Rattle.std.proofs.lemmas.List.Elements.{All-replicate}
 use Rattle.corrections.specs.declared.fixes.Fix.{Fix}
@@ -9,4 +9,4 @@ invariant_of-result-clause-small c = All-replicate (λ (f : Fix). f.units ≤ 20
 
 pub invariant_of-result-clause-distinct : goal.invariant_of-result-clause-distinct
 unfolding IsDistinct
-invariant_of-result-clause-distinct c = tt
+invariant_of-result-clause-distinct c = search rules

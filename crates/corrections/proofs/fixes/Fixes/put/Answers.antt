@@ -1,11 +1,10 @@
-use Rattle.std.proofs.Common.{◌≡◌, ℕ, ◌+◌, ◌<◌, ◌≤◌, length, set, take, position, Some, None, arith, length-set, ◌∙◌}
+use Rattle.std.proofs.Common.{◌≡◌, ℕ, ◌+◌, ◌<◌, ◌≤◌, length, set, take, position, Some, None, arith, rules}
 use Rattle.std.proofs.lemmas.List.{length-take-le}
-use Rattle.std.proofs.lemmas.List.Elements.{All-set}
 use Rattle.corrections.specs.declared.fixes.Fix.{Fix}
 use Rattle.corrections.specs.declared.fixes.Fixes.{Fixes}
 use Rattle.corrections.specs.Fixes.{is_for}
 use Rattle.corrections.specs.Kept.{kept}
-use Rattle.corrections.proofs.Places.{Put, place_le, put_at, takes_place}
+use Rattle.corrections.proofs.Places.{Put, place_le, put_at}
 use Rattle.corrections.proofs.fixes.Fixes.put.Goals as goal
 
 -- a pair that was corrected before
@@ -23,23 +22,17 @@ first s x e l =
     let p = place_le (kept s) x.pair.kind x.pair.member in
     put_at s.used (s.used + 1) s.used s.list x room (grind (arith, u, p, e)) (omega (arith, s.long, l)) (omega arith) s.distinct
 
-pub invariant_of-self-clause-long : goal.invariant_of-self-clause-long
-invariant_of-self-clause-long c = length-set c.args.self.now.list c.in-Some.at _ ∙ c.args.self.now.long
+pub invariant_of-self : goal.invariant_of-self
+invariant_of-self c =
+    let p = again c.args.self.now c.in-Some.at (record { pair = c.args.pair; units = c.args.units }) c.in-Some.ensures in
+    let d = p.2 in
+    search (rules, d)
 
-pub invariant_of-self-clause-small : goal.invariant_of-self-clause-small
-invariant_of-self-clause-small c = All-set (λ (f : Fix). f.units ≤ 2000000000) c.args.self.now.list c.in-Some.at (record { pair = c.args.pair; units = c.args.units }) c.requires c.args.self.now.small
-
-pub invariant_of-self-clause-distinct : goal.invariant_of-self-clause-distinct
-invariant_of-self-clause-distinct c = (again c.args.self.now c.in-Some.at (record { pair = c.args.pair; units = c.args.units }) c.in-Some.ensures).2
-
-pub invariant_of-self-then-self-lt64-clause-long : goal.invariant_of-self-then-self-lt64-clause-long
-invariant_of-self-then-self-lt64-clause-long c = length-set c.args.self.now.list c.args.self.now.used _ ∙ c.args.self.now.long
-
-pub invariant_of-self-then-self-lt64-clause-small : goal.invariant_of-self-then-self-lt64-clause-small
-invariant_of-self-then-self-lt64-clause-small c = All-set (λ (f : Fix). f.units ≤ 2000000000) c.args.self.now.list c.args.self.now.used (record { pair = c.args.pair; units = c.args.units }) c.requires c.args.self.now.small
-
-pub invariant_of-self-then-self-lt64-clause-distinct : goal.invariant_of-self-then-self-lt64-clause-distinct
-invariant_of-self-then-self-lt64-clause-distinct c = (first c.args.self.now (record { pair = c.args.pair; units = c.args.units }) c.in-None.ensures c.if-self-lt64.true).2
+pub invariant_of-self-then-self-lt64 : goal.invariant_of-self-then-self-lt64
+invariant_of-self-then-self-lt64 c =
+    let p = first c.args.self.now (record { pair = c.args.pair; units = c.args.units }) c.in-None.ensures c.if-self-lt64.true in
+    let d = p.2 in
+    search (rules, d)
 
 pub returns-in-Some-clause-pairs : goal.returns-in-Some-clause-pairs
 returns-in-Some-clause-pairs c = (again c.args.self.now c.in-Some.at (record { pair = c.args.pair; units = c.args.units }) c.in-Some.ensures).0
@@ -52,21 +45,3 @@ returns-in-None-clause-pairs c = (first c.args.self.now (record { pair = c.args.
 
 pub returns-in-None-clause-after : goal.returns-in-None-clause-after
 returns-in-None-clause-after c = (first c.args.self.now (record { pair = c.args.pair; units = c.args.units }) c.in-None.ensures c.if-self-lt64.true).1
-
-pub returns-in-Some-clause-told : goal.returns-in-Some-clause-told
-returns-in-Some-clause-told c =
-    let s = c.args.self.now in
-    let t = takes_place s.used s.list c.args.pair.kind c.args.pair.member (omega (arith, s.room, s.long)) s.distinct in
-    grind (arith, t, c.in-Some.ensures)
-
-pub returns-in-None-clause-told : goal.returns-in-None-clause-told
-returns-in-None-clause-told c =
-    let s = c.args.self.now in
-    let t = takes_place s.used s.list c.args.pair.kind c.args.pair.member (omega (arith, s.room, s.long)) s.distinct in
-    grind (arith, t, c.in-None.ensures)
-
-pub returns-in-None-2-clause-told : goal.returns-in-None-2-clause-told
-returns-in-None-2-clause-told c =
-    let s = c.args.self.now in
-    let t = takes_place s.used s.list c.args.pair.kind c.args.pair.member (omega (arith, s.room, s.long)) s.distinct in
-    grind (arith, t, c.in-None.ensures, c.refuses.ensures)
