@@ -17,7 +17,7 @@ use Rattle.corrections.specs.Kept.{kept, pairs}
 use Rattle.corrections.specs.Fixes.{Distinct, is_for, pair_of, seek}
 use Rattle.corrections.specs.Pairs.{among, pairs_with, takes_pair}
 
-pub same_pair_equiv : IsEquivalence same_pair
+same_pair_equiv : IsEquivalence same_pair
 same_pair_equiv = record { refl = λ p. grind arith; symm = λ p q. grind arith; congr = λ p q r e. grind (arith, common_steps, e) }
 
 distinct_with : (pairs : List (ℕ × ℕ)) (pair : ℕ × ℕ) → IsDistinct same_pair pairs → IsDistinct same_pair (pairs_with pairs pair)
@@ -35,13 +35,13 @@ pub place_le : (fixes : List Fix) (kind member : ℕ) → place_of fixes kind me
 place_le fixes kind member = prefix_len-le-length _ fixes
 
 -- ---- a fix in the place of another, or after all of them
-abbrev pub placed : List Fix → ℕ → Fix → List Fix
+abbrev placed : List Fix → ℕ → Fix → List Fix
 placed fixes p x = take p fixes ++ (x ∷ drop (suc p) fixes)
 
 take_set_in : (n : ℕ) (list : List Fix) (i : ℕ) (x : Fix) → take n (set list i x) ≡ set (take n list) i x
 take_set_in n list i x = ⊎_elim (λ (l : i < n). take-set-lt n list i x l) (λ (h : n ≤ i). grind (arith, common_steps)) (cases_lt i n)
 
-pub put_list : (used p : ℕ) (list : List Fix) (x : Fix) → used ≤ length list → p ≤ used → p < length list → take (max used (p + 1)) (set list p x) ≡ placed (take used list) p x
+put_list : (used p : ℕ) (list : List Fix) (x : Fix) → used ≤ length list → p ≤ used → p < length list → take (max used (p + 1)) (set list p x) ≡ placed (take used list) p x
 put_list used p list x room l h =
     let u = length-take-le used list room in
     ⊎_elim
@@ -58,7 +58,7 @@ same_pairs k m a b c d s t = grind (arith, common_steps)
 
 module _ (kind member units : ℕ) where
   -- the pair is found with its units, and every other as it was
-  pub seek_placed : (fixes : List Fix) (k m : ℕ) → seek (placed fixes (place_of fixes kind member) (record { pair = record { kind = kind; member = member }; units = units })) k m ≡ cond (same_pair (k, m) (kind, member)) (Some units) (seek fixes k m)
+  seek_placed : (fixes : List Fix) (k m : ℕ) → seek (placed fixes (place_of fixes kind member) (record { pair = record { kind = kind; member = member }; units = units })) k m ≡ cond (same_pair (k, m) (kind, member)) (Some units) (seek fixes k m)
   seek_placed [] k m = grind arith
   seek_placed (f ∷ fixes) k m =
       let rest = seek_placed fixes k m in
@@ -73,7 +73,7 @@ module _ (kind member units : ℕ) where
       (cases_Bool (is_for kind member f))
 
   -- the pairs are as they were, or that pair stands after them
-  pub pairs_placed : (fixes : List Fix) → map pair_of (placed fixes (place_of fixes kind member) (record { pair = record { kind = kind; member = member }; units = units })) ≡ pairs_with (map pair_of fixes) (kind, member)
+  pairs_placed : (fixes : List Fix) → map pair_of (placed fixes (place_of fixes kind member) (record { pair = record { kind = kind; member = member }; units = units })) ≡ pairs_with (map pair_of fixes) (kind, member)
   pairs_placed [] = refl
   pairs_placed (f ∷ fixes) =
       let rest = pairs_placed fixes in

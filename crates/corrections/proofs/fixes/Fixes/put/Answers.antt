@@ -24,24 +24,24 @@ first s x e l =
 
 pub invariant_of-self : goal.invariant_of-self
 invariant_of-self c =
-    let p = again c.args.self.now c.in-Some.at (record { pair = c.args.pair; units = c.args.units }) c.in-Some.ensures in
-    let d = p.2 in
-    search (rules, d)
+    let put = again c.args.self.now c.in-Some.at (record { pair = c.args.pair; units = c.args.units }) c.in-Some.ensures in
+    let distinct = put.2 in
+    search (rules, distinct)
 
 pub invariant_of-self-then-self-lt64 : goal.invariant_of-self-then-self-lt64
 invariant_of-self-then-self-lt64 c =
-    let p = first c.args.self.now (record { pair = c.args.pair; units = c.args.units }) c.in-None.ensures c.if-self-lt64.true in
-    let d = p.2 in
-    search (rules, d)
+    let put = first c.args.self.now (record { pair = c.args.pair; units = c.args.units }) c.in-None.ensures c.if-self-lt64.true in
+    let distinct = put.2 in
+    search (rules, distinct)
 
 pub returns-in-Some-clause-pairs : goal.returns-in-Some-clause-pairs
-returns-in-Some-clause-pairs c = (again c.args.self.now c.in-Some.at (record { pair = c.args.pair; units = c.args.units }) c.in-Some.ensures).0
+returns-in-Some-clause-pairs c = (again c.args.self.now c.in-Some.at _ c.in-Some.ensures).0
 
 pub returns-in-Some-clause-after : goal.returns-in-Some-clause-after
-returns-in-Some-clause-after c = (again c.args.self.now c.in-Some.at (record { pair = c.args.pair; units = c.args.units }) c.in-Some.ensures).1
+returns-in-Some-clause-after c = (again c.args.self.now c.in-Some.at _ c.in-Some.ensures).1
 
 pub returns-in-None-clause-pairs : goal.returns-in-None-clause-pairs
-returns-in-None-clause-pairs c = (first c.args.self.now (record { pair = c.args.pair; units = c.args.units }) c.in-None.ensures c.if-self-lt64.true).0
+returns-in-None-clause-pairs c = (first c.args.self.now _ c.in-None.ensures c.if-self-lt64.true).0
 
 pub returns-in-None-clause-after : goal.returns-in-None-clause-after
-returns-in-None-clause-after c = (first c.args.self.now (record { pair = c.args.pair; units = c.args.units }) c.in-None.ensures c.if-self-lt64.true).1
+returns-in-None-clause-after c = (first c.args.self.now _ c.in-None.ensures c.if-self-lt64.true).1
