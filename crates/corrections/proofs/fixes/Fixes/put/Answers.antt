@@ -30,7 +30,7 @@ invariant_of-self c =
 
 pub invariant_of-self-then-self-lt64 : goal.invariant_of-self-then-self-lt64
 invariant_of-self-then-self-lt64 c =
-    let put = first c.args.self.now (record { pair = c.args.pair; units = c.args.units }) c.in-None.ensures c.if-self-lt64.true in
+    let put = first c.args.self.now (record { pair = c.args.pair; units = c.args.units }) c.in-None.ensures (omega (arith, c.if-self-lt64.true)) in
     let distinct = put.2 in
     search (rules, distinct)
 
@@ -41,7 +41,7 @@ pub returns-in-Some-clause-after : goal.returns-in-Some-clause-after
 returns-in-Some-clause-after c = (again c.args.self.now c.in-Some.at _ c.in-Some.ensures).1
 
 pub returns-in-None-clause-pairs : goal.returns-in-None-clause-pairs
-returns-in-None-clause-pairs c = (first c.args.self.now _ c.in-None.ensures c.if-self-lt64.true).0
+returns-in-None-clause-pairs c = (first c.args.self.now _ c.in-None.ensures (omega (arith, c.if-self-lt64.true))).0
 
 pub returns-in-None-clause-after : goal.returns-in-None-clause-after
-returns-in-None-clause-after c = (first c.args.self.now _ c.in-None.ensures c.if-self-lt64.true).1
+returns-in-None-clause-after c = (first c.args.self.now _ c.in-None.ensures (omega (arith, c.if-self-lt64.true))).1
