@@ -75,6 +75,8 @@ impl<B: Book> Correctable for Corrections<B> {
         self.fixes.takes(Pair { kind, member })
     }
 
+    // The trait's clauses, told of this layer, and two more: which pairs are corrected then, and that
+    // the book below stays.
     fn correct(&mut self, kind: u32, member: u32, amount: i64) -> Result<(), Fault>
         ensures told { answer result ≡ bare (correct_rule (B.count self.old.book) (units_over self.old.fixes (B.held self.old.book kind member) kind member) (takes_pair (pairs self.old.fixes) (kind, member)) kind member amount) }
         ensures kept { MatchResult result (λ _. (B.month self.new.book ≡ B.month self.old.book) × (B.count self.new.book ≡ B.count self.old.book)) (λ _. self.new ≡ self.old) }
