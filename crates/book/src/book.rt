@@ -44,6 +44,11 @@ pub trait Correctable: Book {
 
     ghost keeps: { Self → ℕ → ℕ → Bool };
 
+    /// Whether the book takes corrections of a kind and a member, any two numbers. It tells whether
+    /// `correct` refuses the pair by 15, the last of its tests, and changes nothing.
+    fn takes(&self, kind: u32, member: u32) -> bool
+        ensures { result ≡ takes self.now kind member };
+
     /// Adds a signed amount to the units of one kind and member. Refused, nothing changes.
     fn correct(&mut self, kind: u32, member: u32, amount: i64) -> Result<(), Fault>
         ensures told { answer result ≡ bare (correct_rule (Self.Book.count self.old) (Self.Book.held self.old kind member) (takes self.old kind member) kind member amount) }

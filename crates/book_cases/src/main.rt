@@ -35,6 +35,18 @@ fn told(rt: &HostRuntime, name: &str, answer: Result<(), Fault>) -> io::Result<(
     }
 }
 
+/// Prints whether a book takes corrections of a pair.
+fn taken<B: Correctable>(
+    rt: &HostRuntime,
+    name: &str,
+    book: &B,
+    kind: u32,
+    member: u32,
+) -> io::Result<()> {
+    let takes = book.takes(kind, member);
+    println!(rt; "{name} takes {kind},{member}: {takes}")
+}
+
 /// A count of 4 invoices means 4, whatever office encoded the book.
 fn table(rt: &HostRuntime) -> io::Result<TableBook> {
     let mut book = TableBook::blank();
@@ -101,6 +113,43 @@ fn layers(rt: &HostRuntime, book: TableBook) -> io::Result<()> {
     show(rt, "upper", &upper, 1, 0)
 }
 
+/// Corrects the first kind of the first member again and again, by 0 and by 1 in turn.
+fn correct_one_pair<B: Correctable>(book: &mut B, times: u32) -> u32 {
+    let mut accepted = 0u32;
+    // A loop and no filter with a count, as each correction changes the book.
+    for time in 0..times {
+        if book.correct(1, 0, i64::from(time % 2)).is_ok() {
+            accepted = accepted.saturating_add(1);
+        }
+    }
+    accepted
+}
+
+/// A pair that is corrected 70 times counts once, and one that is refused does not count: 63 others
+/// are accepted after them, and then no more.
+fn counted_pairs(rt: &HostRuntime, book: TableBook) -> io::Result<()> {
+    taken(rt, "table", &book, 9, 99)?;
+    let mut layer = Corrections::over(book);
+    taken(rt, "layer", &layer, 0, 10)?;
+    let times = correct_one_pair(&mut layer, 70);
+    println!(rt; "corrections of one pair: {times}")?;
+    told(rt, "another below 0", layer.correct(2, 1, -3))?;
+    taken(rt, "layer", &layer, 2, 9)?;
+    let accepted = correct_pairs(&mut layer, 1, 64);
+    println!(rt; "other pairs kept: {accepted}")?;
+    taken(rt, "layer", &layer, 2, 9)?;
+    taken(rt, "layer", &layer, 0, 10)?;
+    taken(rt, "layer", &layer, 1, 0)?;
+    taken(rt, "layer", &layer, 1, 9)?;
+    told(rt, "a 65th pair", layer.correct(2, 9, 0))?;
+    told(rt, "the last pair again", layer.correct(1, 9, 5))?;
+    show(rt, "layer", &layer, 1, 0)?;
+    show(rt, "layer", &layer, 1, 9)?;
+    show(rt, "layer", &layer, 2, 9)?;
+    let upper = Corrections::over(layer);
+    taken(rt, "upper", &upper, 2, 9)
+}
+
 /// Standing megawatts at the most hours, and a book that is one of two.
 fn others(rt: &HostRuntime, table: TableBook) -> io::Result<()> {
     let member = Standing {
@@ -133,5 +182,6 @@ fn main(rt: HostRuntime) -> io::Result<()> {
     let book = table(&rt)?;
     edges(&rt, book)?;
     layers(&rt, book)?;
-    others(&rt, book)
+    others(&rt, book)?;
+    counted_pairs(&rt, book)
 }

@@ -47,6 +47,10 @@ impl Correctable for HeldBook<GivenUnits> {
 
     ghost lasting = { Prim.search rules };
 
+    fn takes(&self, _kind: u32, _member: u32) -> bool {
+        true
+    }
+
     fn correct(&mut self, kind: u32, member: u32, amount: i64) -> Result<(), Fault> {
         let units = new_units(self, kind, member, amount)?;
         self.units.put(kind, member, units);

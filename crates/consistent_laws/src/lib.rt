@@ -34,6 +34,7 @@ pub fn zero_by_correctable<B: Correctable>(book: &mut B) -> u32
 {
     let _ = book.correct(1, 0, 1);
     let _ = book.correct(1, 0, -1);
+    let _ = book.takes(1, 0);
     let _ = book.members();
     0
 }

@@ -1,8 +1,9 @@
 //! The corrected pairs of kind and member, each with its corrected units; at most 64.
 mod calls;
 
-ghost use Rattle.std.specs.Prelude.{◌≡◌, ◌≤◌, length};
-ghost use Rattle.corrections.specs.Fixes.{Small};
+ghost use Rattle.std.specs.Prelude.{◌≡◌, ◌≤◌, length, take};
+ghost use Rattle.corrections.specs.Fixes.{Distinct, Small};
+ghost use Rattle.std.proofs.Props.{props};
 
 use crate::pair::Pair;
 
@@ -22,4 +23,5 @@ pub struct Fixes {
     ghost room: { used ≤ 64 },
     ghost long: { length list ≡ 64 },
     ghost small: { Small list },
+    ghost distinct: { Distinct (take used list) } by { Prim.hlevel props },
 }

@@ -1,9 +1,10 @@
 //! The layer of corrections over a book. It keeps each corrected pair's units and means these, and
 //! the book's units for every other pair; the book below stays as it is.
-ghost use Rattle.std.specs.Prelude.{◌≡◌, [], is_some};
-ghost use Rattle.std.specs.Option.{unwrap_or};
-ghost use Rattle.corrections.specs.Kept.{kept};
-ghost use Rattle.corrections.specs.Fixes.{seek, takes_pair};
+ghost use Rattle.std.specs.Prelude.{◌≡◌, [], ℕ, OnOk, MatchResult};
+ghost use Rattle.refusal.specs.Answers.{answer, bare};
+ghost use Rattle.book.specs.Correcting.{correct_rule, corrected_units, kept_after};
+ghost use Rattle.corrections.specs.Kept.{kept, pairs, units_over};
+ghost use Rattle.corrections.specs.Pairs.{among, pairs_with, takes_pair};
 ghost use Rattle.corrections.specs.Values.{kept_small};
 ghost use Rattle.std.proofs.Common.{rules};
 
@@ -38,7 +39,7 @@ impl<B: Book> Book for Corrections<B> {
 
     ghost count = { λ c. B.Book.count c.book };
 
-    ghost held = { λ c kind member. unwrap_or (seek (kept c.fixes) kind member) (B.Book.held c.book kind member) };
+    ghost held = { λ c kind member. units_over c.fixes (B.Book.held c.book kind member) kind member };
 
     ghost dated = { Prim.search rules };
 
@@ -64,13 +65,26 @@ impl<B: Book> Book for Corrections<B> {
 }
 
 impl<B: Book> Correctable for Corrections<B> {
-    ghost takes = { λ c kind member. takes_pair (kept c.fixes) kind member };
+    ghost takes = { λ c kind member. takes_pair (pairs c.fixes) (kind, member) };
 
-    ghost keeps = { λ c kind member. is_some (seek (kept c.fixes) kind member) };
+    ghost keeps = { λ c kind member. among (pairs c.fixes) (kind, member) };
 
     ghost lasting = { Prim.search rules };
 
-    fn correct(&mut self, kind: u32, member: u32, amount: i64) -> Result<(), Fault> {
+    fn takes(&self, kind: u32, member: u32) -> bool {
+        self.fixes.takes(Pair { kind, member })
+    }
+
+    // The trait's clauses, told of this layer, and two more: which pairs are corrected then, and that
+    // the book below stays.
+    fn correct(&mut self, kind: u32, member: u32, amount: i64) -> Result<(), Fault>
+        ensures told { answer result ≡ bare (correct_rule (B.count self.old.book) (units_over self.old.fixes (B.held self.old.book kind member) kind member) (takes_pair (pairs self.old.fixes) (kind, member)) kind member amount) }
+        ensures kept { MatchResult result (λ _. (B.month self.new.book ≡ B.month self.old.book) × (B.count self.new.book ≡ B.count self.old.book)) (λ _. self.new ≡ self.old) }
+        ensures units { OnOk result ((k m : ℕ) → units_over self.new.fixes (B.held self.new.book k m) k m ≡ corrected_units (units_over self.old.fixes (B.held self.old.book k m) k m) amount (k, m) (kind, member)) }
+        ensures taken { OnOk result ((k m : ℕ) → among (pairs self.new.fixes) (k, m) ≡ kept_after (among (pairs self.old.fixes) (k, m)) (k, m) (kind, member)) }
+        ensures pairs { OnOk result (pairs self.new.fixes ≡ pairs_with (pairs self.old.fixes) (kind, member)) }
+        ensures below { self.new.book ≡ self.old.book }
+    {
         let units = new_units(self, kind, member, amount)?;
         self.fixes.put(Pair { kind, member }, units)
     }

@@ -1,9 +1,10 @@
 //! Looking a pair up, and keeping its units.
-ghost use Rattle.std.specs.Prelude.{◌≡◌, ℕ, ◌≤◌, [], if◌then◌else◌, Some, MatchResult, position};
+ghost use Rattle.std.specs.Prelude.{◌≡◌, ℕ, ◌≤◌, [], if◌then◌else◌, Some, MatchResult, OnOk, position};
 ghost use Rattle.refusal.specs.Answers.{answer, bare};
 ghost use Rattle.book.specs.Correcting.{same_pair, taken_rule};
-ghost use Rattle.corrections.specs.Kept.{kept};
-ghost use Rattle.corrections.specs.Fixes.{is_for, seek, takes_pair};
+ghost use Rattle.corrections.specs.Kept.{kept, pairs};
+ghost use Rattle.corrections.specs.Fixes.{is_for, seek};
+ghost use Rattle.corrections.specs.Pairs.{pairs_with, takes_pair};
 
 use crate::fixes::{Fix, Fixes};
 use crate::pair::Pair;
@@ -44,10 +45,20 @@ impl Fixes {
             .map(|fix| fix.units)
     }
 
+    /// Whether a pair is corrected already or there is room for one more.
+    #[tactic(auto, using(crate::proofs::Places::takes_kept))]
+    pub(crate) fn takes(&self, pair: Pair) -> bool
+        ensures { result ≡ takes_pair (pairs self.now) (pair.kind, pair.member) }
+    {
+        self.place(pair).is_some() || self.used < 64
+    }
+
     /// Keeps a pair's units; refused where no place is left for a new pair, and then nothing changes.
+    #[tactic(auto, using(crate::proofs::Places::takes_kept))]
     pub(crate) fn put(&mut self, pair: Pair, units: u32) -> Result<(), Fault>
         requires { units ≤ 2000000000 }
-        ensures told { answer result ≡ bare (taken_rule (takes_pair (kept self.old) pair.kind pair.member) units) }
+        ensures told { answer result ≡ bare (taken_rule (takes_pair (pairs self.old) (pair.kind, pair.member)) units) }
+        ensures pairs { OnOk result (pairs self.new ≡ pairs_with (pairs self.old) (pair.kind, pair.member)) }
         ensures after { MatchResult result (λ _. (k m : ℕ) → seek (kept self.new) k m ≡ (if same_pair (k, m) (pair.kind, pair.member) then Some units else seek (kept self.old) k m)) (λ _. self.new ≡ self.old) }
     {
         match self.place(pair) {

@@ -1,44 +1,47 @@
-use Rattle.std.proofs.Common.{◌≡◌, ℕ, ◌+◌, ◌<◌, ◌≤◌, cond, List, length, set, take, max, Some, ap, ◌∙◌, arith}
-use Rattle.book.specs.Correcting.{same_pair}
+use Rattle.std.proofs.Common.{◌≡◌, ℕ, ◌+◌, ◌<◌, ◌≤◌, length, set, take, position, Some, None, arith, rules}
+use Rattle.std.proofs.lemmas.List.{length-take-le}
 use Rattle.corrections.specs.declared.fixes.Fix.{Fix}
-use Rattle.corrections.specs.Fixes.{place_of, seek}
-use Rattle.corrections.specs.Places.{place_le, put_list, seek_placed, takes_not, takes_yes, used_length}
+use Rattle.corrections.specs.declared.fixes.Fixes.{Fixes}
+use Rattle.corrections.specs.Fixes.{is_for}
+use Rattle.corrections.specs.Kept.{kept}
+use Rattle.corrections.proofs.Places.{Put, place_le, put_at}
 use Rattle.corrections.proofs.fixes.Fixes.put.Goals as goal
 
--- the pair's units at its place, of a list with room for it
-kept : (used n p : ℕ) (list : List Fix) (x : Fix) (k m : ℕ) → used ≤ length list → p ≡ place_of (take used list) x.pair.kind x.pair.member → p < length list → n ≡ max used (p + 1)
-    → seek (take n (set list p x)) k m ≡ cond (same_pair (k, m) (x.pair.kind, x.pair.member)) (Some x.units) (seek (take used list) k m)
-kept used n p list x k m room at l e =
-    let h : p ≤ used = omega (arith, at, used_length used list room, place_le (take used list) x.pair.kind x.pair.member) in
-    ap (λ (i : ℕ). seek (take i (set list p x)) k m) e ∙ ap (λ (fs : List Fix). seek fs k m) (put_list used p list x room h l) ∙ rw at (seek_placed x.pair.kind x.pair.member x.units (take used list) k m)
+-- a pair that was corrected before
+again : (s : Fixes) (at : ℕ) (x : Fix) → Some at ≡ position (is_for x.pair.kind x.pair.member) (kept s) → Put (kept s) (take s.used (set s.list at x)) x
+again s at x e =
+    let room : s.used ≤ length s.list = omega (arith, s.room, s.long) in
+    let u = length-take-le s.used s.list room in
+    put_at s.used s.used at s.list x room (grind (arith, e)) (grind (arith, u, room, e)) (grind (arith, u, e)) s.distinct
 
-pub returns-in-Some-clause-told : goal.returns-in-Some-clause-told
-returns-in-Some-clause-told c =
-    let s = c.args.self.now in
-    let u = used_length s.used s.list (omega (arith, s.room, s.long)) in
-    let t = takes_yes (take s.used s.list) c.args.pair.kind c.args.pair.member (grind (arith, u, c.in-Some.ensures)) in
-    rw t cc
+-- a pair more
+first : (s : Fixes) (x : Fix) → None ≡ position (is_for x.pair.kind x.pair.member) (kept s) → s.used < 64 → Put (kept s) (take (s.used + 1) (set s.list s.used x)) x
+first s x e l =
+    let room : s.used ≤ length s.list = omega (arith, s.room, s.long) in
+    let u = length-take-le s.used s.list room in
+    let p = place_le (kept s) x.pair.kind x.pair.member in
+    put_at s.used (s.used + 1) s.used s.list x room (grind (arith, u, p, e)) (omega (arith, s.long, l)) (omega arith) s.distinct
 
-pub returns-in-None-2-clause-told : goal.returns-in-None-2-clause-told
-returns-in-None-2-clause-told c =
-    let s = c.args.self.now in
-    let u = used_length s.used s.list (omega (arith, s.room, s.long)) in
-    let p : length (take s.used s.list) ≤ place_of (take s.used s.list) c.args.pair.kind c.args.pair.member = grind (arith, c.in-None.ensures) in
-    let t = takes_not (take s.used s.list) c.args.pair.kind c.args.pair.member (omega (arith, u)) (omega (arith, u, p)) in
-    rw (t, c.refuses.ensures) cc
+pub invariant_of-self : goal.invariant_of-self
+invariant_of-self c =
+    let put = again c.args.self.now c.in-Some.at (record { pair = c.args.pair; units = c.args.units }) c.in-Some.ensures in
+    let distinct = put.2 in
+    search (rules, distinct)
+
+pub invariant_of-self-then-self-lt64 : goal.invariant_of-self-then-self-lt64
+invariant_of-self-then-self-lt64 c =
+    let put = first c.args.self.now (record { pair = c.args.pair; units = c.args.units }) c.in-None.ensures (omega (arith, c.if-self-lt64.true)) in
+    let distinct = put.2 in
+    search (rules, distinct)
+
+pub returns-in-Some-clause-pairs : goal.returns-in-Some-clause-pairs
+returns-in-Some-clause-pairs c = (again c.args.self.now c.in-Some.at _ c.in-Some.ensures).0
 
 pub returns-in-Some-clause-after : goal.returns-in-Some-clause-after
-returns-in-Some-clause-after c k m =
-    let s = c.args.self.now in
-    let room : s.used ≤ length s.list = omega (arith, s.room, s.long) in
-    let u = used_length s.used s.list room in
-    let l : c.in-Some.at < s.used = grind (arith, u, c.in-Some.ensures) in
-    kept s.used _ c.in-Some.at s.list (record { pair = c.args.pair; units = c.args.units }) k m room (grind (arith, c.in-Some.ensures)) (omega (arith, room, l)) (omega (arith, l))
+returns-in-Some-clause-after c = (again c.args.self.now c.in-Some.at _ c.in-Some.ensures).1
+
+pub returns-in-None-clause-pairs : goal.returns-in-None-clause-pairs
+returns-in-None-clause-pairs c = (first c.args.self.now _ c.in-None.ensures (omega (arith, c.if-self-lt64.true))).0
 
 pub returns-in-None-clause-after : goal.returns-in-None-clause-after
-returns-in-None-clause-after c k m =
-    let s = c.args.self.now in
-    let room : s.used ≤ length s.list = omega (arith, s.room, s.long) in
-    let u = used_length s.used s.list room in
-    let p = place_le (take s.used s.list) c.args.pair.kind c.args.pair.member in
-    kept s.used _ s.used s.list (record { pair = c.args.pair; units = c.args.units }) k m room (grind (arith, u, p, c.in-None.ensures)) (omega (arith, s.long)) (omega arith)
+returns-in-None-clause-after c = (first c.args.self.now _ c.in-None.ensures (omega (arith, c.if-self-lt64.true))).1
