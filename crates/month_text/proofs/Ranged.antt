@@ -1,8 +1,7 @@
 -- A month that a text is read as is in range.
-use Rattle.std.proofs.Common.{◌≡◌, ℕ, ◌≤◌, true, false, eqb, List, get_or, sum, ℤ, pos, negsuc, Some, codes, subst, arith}
+use Rattle.std.proofs.Common.{◌≡◌, ℕ, ◌≤◌, true, false, eqb, List, get_or, sum, ℤ, pos, codes, subst}
 use Rattle.std.specs.List.{list_all}
 use Rattle.std.proofs.lemmas.Bool.{eqb-true}
-use Rattle.std.proofs.lemmas.Bool.Decides.{nat_tests}
 use Rattle.refusal.specs.declared.Layer.{Layer}
 use Rattle.refusal.specs.Answers.{Told}
 use Rattle.month_text.specs.declared.month.Month.{Month}
@@ -11,23 +10,16 @@ use Rattle.month_text.specs.Lines.{line_at}
 use Rattle.month_text.specs.Ranges.{each, natural_in, amount_in, number_at_line, row_at, amounts_at, weights_at}
 use Rattle.month_text.specs.Months.{sheet_at, read_month}
 use Rattle.month_text.specs.Accepted.{EachTo, EachWithin, Weighed, InRange}
-use Rattle.month_text.proofs.Accepted.{next_done, test_done, each_range, all_within, places_kept}
+use Rattle.month_text.proofs.Accepted.{natural_within, next_done, test_done, each_range, all_within, places_kept}
 use Rattle.month_text.proofs.Parts.{sheet_parts, month_parts}
 use Rattle.month_text.proofs.TakenRows.{or_done}
-
-natural_both : (low high : ℕ) (z : ℤ) (n : ℕ) → natural_in low high z ≡ Some n → (low ≤ n) × (n ≤ high)
-natural_both low high (pos m) n e =
-    let a : low ≤ n = grind (arith, nat_tests) in
-    let b : n ≤ high = grind (arith, nat_tests) in
-    (a, b)
-natural_both low high (negsuc m) n e = absurd cc
 
 number_ranged : (key : List ℕ) (low high line : ℕ) (s : List ℕ) (v : ℕ × List ℕ) → number_at_line key low high line s ≡ Told.done v → (low ≤ v.0) × (v.0 ≤ high)
 number_ranged key low high line s v e =
     let a = or_done (line_at key false 1 s) 1 Layer.Text line _ v e in
     let b = or_done (natural_in low high (get_or a.0.0 0 (pos 0))) 2 Layer.Text line _ v a.2 in
     let n : (b.0, a.0.1) ≡ v = cc b.2 in
-    subst (λ (w : ℕ × List ℕ). (low ≤ w.0) × (w.0 ≤ high)) n (natural_both low high (get_or a.0.0 0 (pos 0)) b.0 b.1)
+    subst (λ (w : ℕ × List ℕ). (low ≤ w.0) × (w.0 ≤ high)) n (natural_within low high (get_or a.0.0 0 (pos 0)) b.0 b.1)
 
 row_ranged : (key : List ℕ) (count low high line : ℕ) (s : List ℕ) (v : List ℕ × List ℕ) → row_at key count low high line s ≡ Told.done v → EachTo high v.0
 row_ranged key count low high line s v e =
