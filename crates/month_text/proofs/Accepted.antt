@@ -26,9 +26,12 @@ pub test_done : {T : Type 0} (b : Bool) (w v : T) (n : ℕ) (l : Layer) (p : ℕ
 test_done true w v n l p e = (refl, cc)
 test_done false w v n l p e = absurd cc
 
-natural_range : (low high : ℕ) (z : ℤ) (n : ℕ) → natural_in low high z ≡ Some n → n ≤ high
-natural_range low high (pos m) n e = grind (arith, nat_tests)
-natural_range low high (negsuc m) n e = absurd cc
+pub natural_within : (low high : ℕ) (z : ℤ) (n : ℕ) → natural_in low high z ≡ Some n → (low ≤ n) × (n ≤ high)
+natural_within low high (pos m) n e =
+    let a : low ≤ n = grind (arith, nat_tests) in
+    let b : n ≤ high = grind (arith, nat_tests) in
+    (a, b)
+natural_within low high (negsuc m) n e = absurd cc
 
 cons_each : (high n : ℕ) (ns : List ℕ) → n ≤ high → EachTo high ns → EachTo high (n ∷ ns)
 cons_each high n ns h t zero = h
@@ -42,7 +45,7 @@ each_range low high (z ∷ zs) ns e =
     let a = bind_some (natural_in low high z) (λ y. bind (each (natural_in low high) zs) (λ ys. Some (y ∷ ys))) ns e in
     let b = bind_some (each (natural_in low high) zs) (λ ys. Some (a.0 ∷ ys)) ns a.2 in
     let n : a.0 ∷ b.0 ≡ ns = cc b.2 in
-    subst (EachTo high) n (cons_each high a.0 b.0 (natural_range low high z a.0 a.1) (each_range low high zs b.0 b.1))
+    subst (EachTo high) n (cons_each high a.0 b.0 (natural_within low high z a.0 a.1).1 (each_range low high zs b.0 b.1))
 
 pub all_within : (most : ℕ) (zs : List ℤ) → list_all (amount_in most) zs ≡ true → EachWithin most zs
 all_within most [] e k = omega arith

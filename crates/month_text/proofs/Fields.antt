@@ -12,8 +12,8 @@ onto_more : {X Y : Type 0} (xs : List X) (x : X) (o : Option (List X × Y)) → 
 onto_more xs x None = refl
 onto_more xs x (Some q) = rw append_assoc refl
 
-pub fields_more : (signs : Bool) (k left : ℕ) (s : List ℕ) (z : ℤ) (b : ℕ) (t u : List ℕ) (xs : List ℤ) → k ≡ suc left → integer_at signs s ≡ Some (z, t) → b ≡ stop left → past (b ∷ []) t ≡ Some u → onto xs (fields_at signs k s) ≡ onto (xs ++ z ∷ []) (fields_at signs left u)
-fields_more signs k left s z b t u xs e i h p = let p2 : past (stop left ∷ []) t ≡ Some u = rw (← h) p in rw (e, i, p2) (onto_more xs z (fields_at signs left u))
+pub fields_more : (signs : Bool) (k left : ℕ) (s : List ℕ) (z : ℤ) (t u : List ℕ) (xs : List ℤ) → k ≡ suc left → integer_at signs s ≡ Some (z, t) → past (stop left ∷ []) t ≡ Some u → onto xs (fields_at signs k s) ≡ onto (xs ++ z ∷ []) (fields_at signs left u)
+fields_more signs k left s z t u xs e i p = rw (e, i, p) (onto_more xs z (fields_at signs left u))
 
-pub fields_no_stop : (signs : Bool) (k left : ℕ) (s : List ℕ) (z : ℤ) (b : ℕ) (t : List ℕ) (xs : List ℤ) → k ≡ suc left → integer_at signs s ≡ Some (z, t) → b ≡ stop left → past (b ∷ []) t ≡ None → onto xs (fields_at signs k s) ≡ None
-fields_no_stop signs k left s z b t xs e i h p = let p2 : past (stop left ∷ []) t ≡ None = rw (← h) p in rw (e, i, p2) refl
+pub fields_no_stop : (signs : Bool) (k left : ℕ) (s : List ℕ) (z : ℤ) (t : List ℕ) (xs : List ℤ) → k ≡ suc left → integer_at signs s ≡ Some (z, t) → past (stop left ∷ []) t ≡ None → onto xs (fields_at signs k s) ≡ None
+fields_no_stop signs k left s z t xs e i p = rw (e, i, p) refl

@@ -2,6 +2,7 @@ pub mod Accepted
 pub mod Eachwise
 pub mod Fields
 pub mod OneSpelling
+pub mod Parts
 pub mod Rows
 pub mod Spelled
 pub mod Steps

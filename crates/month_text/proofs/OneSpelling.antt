@@ -1,7 +1,6 @@
 -- A text that is read is the spelling of its month, and so the only one.
-use Rattle.std.proofs.Common.{◌≡◌, ℕ, ◌+◌, Bool, true, false, cond, eqb, ltb, List, [], ◌∷◌, ◌++◌, length, get_or, take, ℤ, pos, Some, None, codes, Option, sym, refl, ap, ◌∙◌, subst, append-nil, arith}
+use Rattle.std.proofs.Common.{◌≡◌, ℕ, ◌+◌, List, [], ◌∷◌, ◌++◌, get_or, take, ℤ, pos, Some, None, codes, Option, sym, refl, ap, ◌∙◌, subst, append-nil, arith}
 use Rattle.std.proofs.lemmas.List.{nil_from_length}
-use Rattle.std.proofs.lemmas.Bool.{eqb-true}
 use Rattle.cents.proofs.Tabulated.{tabulated}
 use Rattle.refusal.specs.declared.Layer.{Layer}
 use Rattle.refusal.specs.Answers.{Told}
@@ -10,11 +9,10 @@ use Rattle.month_text.specs.declared.month.RuleName.{RuleName}
 use Rattle.month_text.specs.declared.month.RuleName.TheVariants.{Posted, Ratio}
 use Rattle.month_text.specs.declared.month.SheetLines.{SheetLines}
 use Rattle.month_text.specs.Lines.{past}
-use Rattle.month_text.specs.Ranges.{off_layout, or_else, number_at_line, row_at, amounts_at, weights_at}
-use Rattle.month_text.specs.Members.{places_at}
-use Rattle.month_text.specs.Months.{rule_at, sheet_at, month_at, read_month}
+use Rattle.month_text.specs.Ranges.{off_layout, or_else}
+use Rattle.month_text.specs.Months.{rule_at, sheet_at, read_month}
 use Rattle.month_text.specs.OneSpelling.{spelled_line, spelled_rule, spelled_sheet, spelled_members, spelled, breaks, AsSpelled, OneSpelling, LineCount}
-use Rattle.month_text.proofs.Accepted.{next_done, test_done}
+use Rattle.month_text.proofs.Parts.{sheet_parts, month_parts}
 use Rattle.month_text.proofs.Taken.{Takes, both, past_front}
 use Rattle.month_text.proofs.TakenRows.{or_done, number_line_takes, row_takes, weights_takes, amounts_takes, places_takes}
 
@@ -38,14 +36,11 @@ SheetTaken s v = Takes s (spelled_sheet v.0.division v.0.management v.0.split) 3
 
 sheet_takes : (s : List ℕ) (v : SheetLines × List ℕ) → sheet_at s ≡ Told.done v → SheetTaken s v
 sheet_takes s v e =
-    let a = next_done (weights_at (codes "division") 6 3 s) _ v e in
-    let b = next_done (weights_at (codes "management") 4 4 a.0.1) _ v a.2 in
-    let c = next_done (row_at (codes "split") 2 0 1000 5 b.0.1) _ v b.2 in
-    let d : (record { division = a.0.0; management = b.0.0; split = c.0.0 }, c.0.1) ≡ v = cc c.2 in
-    let division = weights_takes (codes "division") 5 3 s a.0 refl a.1 in
-    let management = weights_takes (codes "management") 3 4 a.0.1 b.0 refl b.1 in
-    let split = row_takes (codes "split") 1 0 1000 5 b.0.1 c.0 refl c.1 in
-    subst (SheetTaken s) d (both division.taken (both management.taken split.taken))
+    let p = sheet_parts s v e in
+    let division = weights_takes (codes "division") 5 3 s p.division refl p.division_read in
+    let management = weights_takes (codes "management") 3 4 p.division.1 p.management refl p.management_read in
+    let split = row_takes (codes "split") 1 0 1000 5 p.management.1 p.split refl p.split_read in
+    subst (SheetTaken s) p.whole (both division.taken (both management.taken split.taken))
 
 -- the text is the spelling, and has so many lines
 record Whole (s : List ℕ) (m : Month) : Type 0 where
@@ -59,35 +54,21 @@ whole s m month rule sheet cost control users members end =
     let e : s ≡ spelled m = all.front ∙ ap (λ (t : List ℕ). spelled m ++ t) end ∙ append-nil (spelled m) in
     record { text = e; lines = ap breaks e ∙ all.count ∙ omega arith }
 
-month_takes : (s : List ℕ) (m : Month) → month_at s ≡ Told.done m → Whole s m
-month_takes s m e =
-    let month = next_done (number_at_line (codes "month") 24277 35999 1 s) _ m e in
-    let rule = next_done (rule_at month.0.1) _ m month.2 in
-    let sheet = next_done (sheet_at rule.0.1) _ m rule.2 in
-    let cost = next_done (amounts_at (codes "cost") 6 4000000000 6 sheet.0.1) _ m sheet.2 in
-    let control = next_done (amounts_at (codes "control") 1 24000000000 7 cost.0.1) _ m cost.2 in
-    let users = next_done (number_at_line (codes "users") 1 32 8 control.0.1) _ m control.2 in
-    let members = next_done (places_at users.0.0 users.0.1) _ m users.2 in
-    let last = test_done (eqb (length members.0.1) 0) _ m 1 Layer.Text (9 + users.0.0) members.2 in
-    let single = amounts_takes (codes "control") 0 24000000000 7 cost.0.1 control.0 refl control.1 in
-    let one : control.0.0 ≡ get_or control.0.0 0 (pos 0) ∷ [] = tabulated (pos 0) 1 control.0.0 single.many in
-    subst (Whole s) last.1
-    (whole s _
-    (number_line_takes (codes "month") 24277 35999 1 s month.0 refl month.1)
-    (rule_takes month.0.1 rule.0 rule.1)
-    (sheet_takes rule.0.1 sheet.0 sheet.1)
-    (amounts_takes (codes "cost") 5 4000000000 6 sheet.0.1 cost.0 refl cost.1).taken
-    (subst (λ (zs : List ℤ). Takes cost.0.1 (spelled_line (codes "control") zs) 1 control.0.1) one single.taken)
-    (number_line_takes (codes "users") 1 32 8 control.0.1 users.0 refl users.1)
-    (places_takes users.0.0 users.0.1 members.0 members.1)
-    (nil_from_length members.0.1 (eqb-true (length members.0.1) 0 last.0)))
-
-not_refused : {T : Type 0} (b : Bool) (n : ℕ) (l : Layer) (p : ℕ) (t : Told T) (v : T) → cond b (Told.refused n l p) t ≡ Told.done v → t ≡ Told.done v
-not_refused true n l p t v e = absurd cc
-not_refused false n l p t v e = e
-
 text_takes : (s : List ℕ) (m : Month) → read_month s ≡ Told.done m → Whole s m
-text_takes s m e = month_takes s m (not_refused (ltb 16384 (length s)) 1 Layer.Text 0 (month_at s) m e)
+text_takes s m e =
+    let p = month_parts s m e in
+    let single = amounts_takes (codes "control") 0 24000000000 7 p.cost.1 p.control refl p.control_read in
+    let one : p.control.0 ≡ get_or p.control.0 0 (pos 0) ∷ [] = tabulated (pos 0) 1 p.control.0 single.many in
+    subst (Whole s) p.whole
+    (whole s _
+    (number_line_takes (codes "month") 24277 35999 1 s p.month refl p.month_read)
+    (rule_takes p.month.1 p.rule p.rule_read)
+    (sheet_takes p.rule.1 p.sheet p.sheet_read)
+    (amounts_takes (codes "cost") 5 4000000000 6 p.sheet.1 p.cost refl p.cost_read).taken
+    (subst (λ (zs : List ℤ). Takes p.cost.1 (spelled_line (codes "control") zs) 1 p.control.1) one single.taken)
+    (number_line_takes (codes "users") 1 32 8 p.control.1 p.users refl p.users_read)
+    (places_takes p.users.0 p.users.1 p.members p.members_read)
+    (nil_from_length p.members.1 p.end))
 
 pub as_spelled : (s : List ℕ) → AsSpelled s
 as_spelled s m e = (text_takes s m e).text

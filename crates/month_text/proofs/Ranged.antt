@@ -1,33 +1,25 @@
 -- A month that a text is read as is in range.
-use Rattle.std.proofs.Common.{◌≡◌, ℕ, ◌+◌, ◌≤◌, Bool, true, false, cond, eqb, ltb, List, length, get_or, sum, ℤ, pos, negsuc, Some, codes, subst, arith}
+use Rattle.std.proofs.Common.{◌≡◌, ℕ, ◌≤◌, true, false, eqb, List, get_or, sum, ℤ, pos, codes, subst}
 use Rattle.std.specs.List.{list_all}
 use Rattle.std.proofs.lemmas.Bool.{eqb-true}
-use Rattle.std.proofs.lemmas.Bool.Decides.{nat_tests}
 use Rattle.refusal.specs.declared.Layer.{Layer}
 use Rattle.refusal.specs.Answers.{Told}
 use Rattle.month_text.specs.declared.month.Month.{Month}
 use Rattle.month_text.specs.declared.month.SheetLines.{SheetLines}
 use Rattle.month_text.specs.Lines.{line_at}
 use Rattle.month_text.specs.Ranges.{each, natural_in, amount_in, number_at_line, row_at, amounts_at, weights_at}
-use Rattle.month_text.specs.Members.{places_at}
-use Rattle.month_text.specs.Months.{rule_at, sheet_at, month_at, read_month}
+use Rattle.month_text.specs.Months.{sheet_at, read_month}
 use Rattle.month_text.specs.Accepted.{EachTo, EachWithin, Weighed, InRange}
-use Rattle.month_text.proofs.Accepted.{next_done, test_done, each_range, all_within, places_kept}
+use Rattle.month_text.proofs.Accepted.{natural_within, next_done, test_done, each_range, all_within, places_kept}
+use Rattle.month_text.proofs.Parts.{sheet_parts, month_parts}
 use Rattle.month_text.proofs.TakenRows.{or_done}
-
-natural_both : (low high : ℕ) (z : ℤ) (n : ℕ) → natural_in low high z ≡ Some n → (low ≤ n) × (n ≤ high)
-natural_both low high (pos m) n e =
-    let a : low ≤ n = grind (arith, nat_tests) in
-    let b : n ≤ high = grind (arith, nat_tests) in
-    (a, b)
-natural_both low high (negsuc m) n e = absurd cc
 
 number_ranged : (key : List ℕ) (low high line : ℕ) (s : List ℕ) (v : ℕ × List ℕ) → number_at_line key low high line s ≡ Told.done v → (low ≤ v.0) × (v.0 ≤ high)
 number_ranged key low high line s v e =
     let a = or_done (line_at key false 1 s) 1 Layer.Text line _ v e in
     let b = or_done (natural_in low high (get_or a.0.0 0 (pos 0))) 2 Layer.Text line _ v a.2 in
     let n : (b.0, a.0.1) ≡ v = cc b.2 in
-    subst (λ (w : ℕ × List ℕ). (low ≤ w.0) × (w.0 ≤ high)) n (natural_both low high (get_or a.0.0 0 (pos 0)) b.0 b.1)
+    subst (λ (w : ℕ × List ℕ). (low ≤ w.0) × (w.0 ≤ high)) n (natural_within low high (get_or a.0.0 0 (pos 0)) b.0 b.1)
 
 row_ranged : (key : List ℕ) (count low high line : ℕ) (s : List ℕ) (v : List ℕ × List ℕ) → row_at key count low high line s ≡ Told.done v → EachTo high v.0
 row_ranged key count low high line s v e =
@@ -50,43 +42,26 @@ amounts_ranged key count most line s v e =
 
 sheet_ranged : (s : List ℕ) (v : SheetLines × List ℕ) → sheet_at s ≡ Told.done v → Weighed v.0.division v.0.management v.0.split
 sheet_ranged s v e =
-    let a = next_done (weights_at (codes "division") 6 3 s) _ v e in
-    let b = next_done (weights_at (codes "management") 4 4 a.0.1) _ v a.2 in
-    let c = next_done (row_at (codes "split") 2 0 1000 5 b.0.1) _ v b.2 in
-    let d : (record { division = a.0.0; management = b.0.0; split = c.0.0 }, c.0.1) ≡ v = cc c.2 in
-    let division = weights_ranged (codes "division") 6 3 s a.0 a.1 in
-    let management = weights_ranged (codes "management") 4 4 a.0.1 b.0 b.1 in
-    let split = row_ranged (codes "split") 2 0 1000 5 b.0.1 c.0 c.1 in
-    subst (λ (w : SheetLines × List ℕ). Weighed w.0.division w.0.management w.0.split) d
+    let p = sheet_parts s v e in
+    let division = weights_ranged (codes "division") 6 3 s p.division p.division_read in
+    let management = weights_ranged (codes "management") 4 4 p.division.1 p.management p.management_read in
+    let split = row_ranged (codes "split") 2 0 1000 5 p.management.1 p.split p.split_read in
+    subst (λ (w : SheetLines × List ℕ). Weighed w.0.division w.0.management w.0.split) p.whole
     (record { division_each = division.0; division_whole = division.1; management_each = management.0; management_whole = management.1; split_each = split })
 
-month_ranged : (s : List ℕ) (m : Month) → month_at s ≡ Told.done m → InRange m
-month_ranged s m e =
-    let month = next_done (number_at_line (codes "month") 24277 35999 1 s) _ m e in
-    let rule = next_done (rule_at month.0.1) _ m month.2 in
-    let sheet = next_done (sheet_at rule.0.1) _ m rule.2 in
-    let cost = next_done (amounts_at (codes "cost") 6 4000000000 6 sheet.0.1) _ m sheet.2 in
-    let control = next_done (amounts_at (codes "control") 1 24000000000 7 cost.0.1) _ m cost.2 in
-    let users = next_done (number_at_line (codes "users") 1 32 8 control.0.1) _ m control.2 in
-    let members = next_done (places_at users.0.0 users.0.1) _ m users.2 in
-    let last = test_done (eqb (length members.0.1) 0) _ m 1 Layer.Text (9 + users.0.0) members.2 in
-    let first = number_ranged (codes "month") 24277 35999 1 s month.0 month.1 in
-    let count = number_ranged (codes "users") 1 32 8 control.0.1 users.0 users.1 in
-    subst InRange last.1
+pub month_in_range : (s : List ℕ) (m : Month) → read_month s ≡ Told.done m → InRange m
+month_in_range s m e =
+    let p = month_parts s m e in
+    let month = number_ranged (codes "month") 24277 35999 1 s p.month p.month_read in
+    let count = number_ranged (codes "users") 1 32 8 p.control.1 p.users p.users_read in
+    subst InRange p.whole
     (record {
-      month_low = first.0;
-      month_high = first.1;
-      weighed = sheet_ranged rule.0.1 sheet.0 sheet.1;
-      cost_each = amounts_ranged (codes "cost") 6 4000000000 6 sheet.0.1 cost.0 cost.1;
-      control_within = amounts_ranged (codes "control") 1 24000000000 7 cost.0.1 control.0 control.1 0;
+      month_low = month.0;
+      month_high = month.1;
+      weighed = sheet_ranged p.rule.1 p.sheet p.sheet_read;
+      cost_each = amounts_ranged (codes "cost") 6 4000000000 6 p.sheet.1 p.cost p.cost_read;
+      control_within = amounts_ranged (codes "control") 1 24000000000 7 p.cost.1 p.control p.control_read 0;
       count_low = count.0;
       count_high = count.1;
-      placed = places_kept users.0.0 users.0.1 members.0 count.1 members.1;
+      placed = places_kept p.users.0 p.users.1 p.members count.1 p.members_read;
     })
-
-pub month_in_range : (s : List ℕ) (m : Month) → read_month s ≡ Told.done m → InRange m
-month_in_range s m e = month_ranged s m (short (ltb 16384 (length s)) (month_at s) e)
-  where
-    short : (b : Bool) (t : Told Month) → cond b (Told.refused 1 Layer.Text 0) t ≡ Told.done m → t ≡ Told.done m
-    short true t h = absurd cc
-    short false t h = h

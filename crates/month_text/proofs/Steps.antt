@@ -1,5 +1,5 @@
 -- One byte off the front of a text, as a slice pattern takes it.
-use Rattle.std.proofs.Common.{◌≡◌, ℕ, zero, suc, ◌+◌, ◌-◌, ◌*◌, ◌<◌, ◌≤◌, Bool, true, List, [], ◌∷◌, length, get_or, take, drop, pos, neg_ℤ, Some, None, refl, arith}
+use Rattle.std.proofs.Common.{◌≡◌, ℕ, zero, suc, ◌+◌, ◌-◌, ◌*◌, ◌<◌, ◌≤◌, Bool, true, List, [], ◌∷◌, length, get_or, take, drop, pos, neg_ℤ, Some, None, refl, add-one, arith}
 use Rattle.std.proofs.lemmas.List.{take_rest}
 use Rattle.std.proofs.lemmas.Bool.Decides.{nat_tests}
 use Rattle.month_text.specs.Numbers.{bind, minus, digits_on, number_at, integer_at}
@@ -28,24 +28,23 @@ pub on_above : (n : ℕ) (s : List ℕ) → 57 < get_or s 0 0 → digits_on n s 
 on_above n [] h = refl
 on_above n (x ∷ xs) h = grind (arith, nat_tests)
 
-pub past_none : (w s : List ℕ) → length w < 1 → past w s ≡ Some s
-past_none [] s h = refl
-past_none (x ∷ xs) s h = absurd (omega arith)
+pub past_end : (w s : List ℕ) (i : ℕ) → i < length w → length s < 1 → past (drop i w) s ≡ None
+past_end [] s i l h = absurd (omega arith)
+past_end (k ∷ ks) s (suc i) l h = past_end ks s i (omega arith) h
+past_end (k ∷ ks) [] zero l h = refl
+past_end (k ∷ ks) (x ∷ xs) zero l h = absurd (omega arith)
 
-pub past_end : (w s : List ℕ) → 1 ≤ length w → length s < 1 → past w s ≡ None
-past_end [] s h e = absurd (omega arith)
-past_end (k ∷ ks) [] h e = refl
-past_end (k ∷ ks) (x ∷ xs) h e = absurd (omega arith)
+pub past_step : (w s : List ℕ) (i : ℕ) → i < length w → 1 ≤ length s → get_or s 0 0 ≡ get_or w i 0 → past (drop i w) s ≡ past (drop (i + 1) w) (rest s)
+past_step [] s i l h d = absurd (omega arith)
+past_step (k ∷ ks) s (suc i) l h d = rw add-one (rw add-one at (past_step ks s i (omega arith) h d))
+past_step (k ∷ ks) [] zero l h d = absurd (omega arith)
+past_step (k ∷ ks) (x ∷ xs) zero l h d = rw take_rest (grind (arith, nat_tests))
 
-pub past_step : (w s : List ℕ) → 1 ≤ length w → 1 ≤ length s → get_or w 0 0 ≡ get_or s 0 0 → past w s ≡ past (rest w) (rest s)
-past_step [] s h e d = absurd (omega arith)
-past_step (k ∷ ks) [] h e d = absurd (omega arith)
-past_step (k ∷ ks) (x ∷ xs) h e d = rw (take_rest, take_rest) (grind (arith, nat_tests))
-
-pub past_other : (w s : List ℕ) → 1 ≤ length w → 1 ≤ length s → (get_or w 0 0 ≡ get_or s 0 0 → ⊥) → past w s ≡ None
-past_other [] s h e d = absurd (omega arith)
-past_other (k ∷ ks) [] h e d = absurd (omega arith)
-past_other (k ∷ ks) (x ∷ xs) h e d = grind (arith, nat_tests)
+pub past_other : (w s : List ℕ) (i : ℕ) → i < length w → 1 ≤ length s → (get_or s 0 0 ≡ get_or w i 0 → ⊥) → past (drop i w) s ≡ None
+past_other [] s i l h d = absurd (omega arith)
+past_other (k ∷ ks) s (suc i) l h d = past_other ks s i (omega arith) h d
+past_other (k ∷ ks) [] zero l h d = absurd (omega arith)
+past_other (k ∷ ks) (x ∷ xs) zero l h d = grind (arith, nat_tests)
 
 -- a sign, where signs are allowed
 integer_signed : (signs : Bool) (s : List ℕ) → signs ≡ true → 1 ≤ length s → get_or s 0 0 ≡ 45 → integer_at signs s ≡ bind (number_at (rest s)) (λ p. bind (minus p.0) (λ z. Some (z, p.1)))
@@ -65,6 +64,6 @@ signed_some signs s (suc n) t y e d f z = rw (integer_signed signs s y e d) (rw 
 -- for the functions that take a digit, a word or a sign off the front
 pub ruleset digit_steps = (on_digit, at_digit, on_none, on_below, on_above)
 
-pub ruleset word_steps = (past_none, past_step, past_end, past_other)
+pub ruleset word_steps = (past_end, past_step, past_other)
 
 pub ruleset sign_steps = (signed_none, signed_zero, signed_some)

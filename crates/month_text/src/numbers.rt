@@ -11,15 +11,16 @@ fn digits_on(n: u64, s: &[u8]) -> Option<(u64, &[u8])>
     ensures value { option_map (λ p. (p.0, p.1.now)) result ≡ digits_on n s.now }
     ensures small { IfSome result (λ p. p.0 < 100000000000) }
 {
-    match s {
-        [digit @ b'0'..=b'9', rest @ ..] => {
-            if n == 0 || n >= 10_000_000_000 {
-                return None;
-            }
-            digits_on(n * 10 + u64::from(*digit - b'0'), rest)
+    let mut n = n;
+    let mut s = s;
+    while let [digit @ b'0'..=b'9', rest @ ..] = s {
+        if n == 0 || n >= 10_000_000_000 {
+            return None;
         }
-        _ => Some((n, s)),
+        n = n * 10 + u64::from(*digit - b'0');
+        s = rest;
     }
+    Some((n, s))
 }
 
 /// The number at the front, and the text after it.
