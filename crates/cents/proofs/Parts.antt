@@ -32,7 +32,7 @@ pub taken_none : (a : ℤ) (T : ℕ) → taken a T 0 ≡ pos 0
 taken_none a zero = refl
 taken_none a (suc T) = down_unique (a *ℤ pos 0) (pos 0) (suc T) 0 (omega arith) (omega (arith, ints))
 
-pub taken_inside : (a : ℤ) (T u : ℕ) → u ≤ T → Inside a (taken a T u)
+taken_inside : (a : ℤ) (T u : ℕ) → u ≤ T → Inside a (taken a T u)
 taken_inside a T u h =
     let z = taken_none a T in
     let e = ap (taken a T) {x = 0 + u} {y = u} (omega arith) in
