@@ -32,11 +32,15 @@ pub taken_none : (a : ℤ) (T : ℕ) → taken a T 0 ≡ pos 0
 taken_none a zero = refl
 taken_none a (suc T) = down_unique (a *ℤ pos 0) (pos 0) (suc T) 0 (omega arith) (omega (arith, ints))
 
-pub taken_inside : (a : ℤ) (T u : ℕ) → u ≤ T → Inside a (taken a T u)
+taken_inside : (a : ℤ) (T u : ℕ) → u ≤ T → Inside a (taken a T u)
 taken_inside a T u h =
     let z = taken_none a T in
     let e = ap (taken a T) {x = 0 + u} {y = u} (omega arith) in
     subst (Inside a) (omega (arith, ints, z, e)) (part_inside a T 0 u (omega arith))
+
+-- a running sum above the whole counts as the whole
+pub taken_up_to_inside : (a : ℤ) (T x : ℕ) → Inside a (taken a T (min x T))
+taken_up_to_inside a T x = taken_inside a T (min x T) (omega arith)
 
 pub taken_all : (a : ℤ) (T : ℕ) → 0 < T → taken a T T ≡ a
 taken_all a T h = down_unique (a *ℤ pos T) a T 0 h (omega (arith, ints))

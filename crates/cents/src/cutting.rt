@@ -1,5 +1,5 @@
 //! Cutting an amount over weights, so that the parts add up to it again.
-ghost use Rattle.std.specs.Prelude.{◌≡◌, ◌≢◌, ◌<◌, ◌≤◌, min, length, sum};
+ghost use Rattle.std.specs.Prelude.{◌≡◌, ◌≢◌, ◌<◌, ◌≤◌, IfSome, min, length, sum};
 ghost use Rattle.cents.specs.Cutting.{cut, parts_up_to, taken, sum_z};
 ghost use Rattle.cents.specs.Rounding.{Inside};
 
@@ -13,7 +13,20 @@ pub fn taken(amount: i64, run: u64, whole: u64) -> i64
     ensures inside { Inside amount result }
 {
     let run = run.min(whole);
-    down(i128::from(amount) * i128::from(run), whole) as i64
+    match taken_in_64_bits(amount, run, whole) {
+        Some(cents) => cents,
+        None => down(i128::from(amount) * i128::from(run), whole) as i64,
+    }
+}
+
+/// The same for a running sum of at most the whole, where all numbers on the way fit 64 bits: such a
+/// division is much the faster. None where one does not fit, or the whole is 0.
+fn taken_in_64_bits(amount: i64, run: u64, whole: u64) -> Option<i64>
+    requires { run ≤ whole }
+    ensures { IfSome result (λ cents. cents ≡ taken amount whole run) }
+{
+    let whole = i64::try_from(whole).ok()?;
+    amount.checked_mul(run as i64)?.checked_div_euclid(whole)
 }
 
 /// Writes what each weight takes of the amount, after those before it. Where there is not one place

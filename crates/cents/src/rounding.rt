@@ -24,3 +24,11 @@ pub fn nearest(a: i64, b: u64) -> i64
     let doubled = 2 * i128::from(a) + i128::from(b);
     doubled.div_euclid(2 * i128::from(b)) as i64
 }
+
+/// The whole cents nearest to an amount in hundredths of a cent, halves up.
+pub fn nearest_cents(hundredths: i64) -> i64
+    ensures { result ≡ round_nearest hundredths 100 }
+{
+    // Half of it first: (x + 50) ÷ 100 in one step overflows at the largest amounts
+    (hundredths.div_euclid(2) + 25).div_euclid(50)
+}

@@ -2,12 +2,18 @@
 ghost use Rattle.std.specs.Prelude.{◌≡◌, ◌-◌, ◌^◌, ◌≤◌, length, min, sum, ◌==◌, nat_le};
 ghost use Rattle.cents.specs.Passes.{all_pass};
 
+/// A row of at most so many weights is added up with no test at each: its sum fits 64 bits.
+const FEW: usize = 65_536;
+
 /// The sum of a row of weights, which stops growing at the largest 64-bit number: no row of at most
 /// 65,536 weights reaches it.
 pub fn total(weights: &[u32]) -> u64
     ensures value { result ≡ min (sum weights.now) (2 ^ 64 - 1) }
     ensures exact { length weights.now ≤ 65536 → result ≡ sum weights.now }
 {
+    if weights.len() <= FEW {
+        return weights.iter().map(|weight| u64::from(*weight)).sum();
+    }
     weights
         .iter()
         .fold(0u64, |sum, weight| sum.saturating_add(u64::from(*weight)))

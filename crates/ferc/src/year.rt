@@ -3,8 +3,9 @@ mod calls;
 
 ghost use Rattle.std.specs.Prelude.{◌≡◌, ◌*◌, ◌≤◌, unsigned_abs};
 
-/// A year. It bills at most twelve months.
-#[derive(Clone, Copy)]
+/// A year. It bills at most twelve months, and is one value: a copy would bill twelve more, so it
+/// cannot be copied.
+#[derive(Drop)]
 pub struct FercYear {
     rate: i64,
     months: u32,

@@ -13,7 +13,6 @@ use sharing::domain::total_or_clear;
 use sharing::laying::lay;
 use sharing::rule::Rule;
 
-// The third `nearest(a × units, b)`: one for all would be public, with a bound asked of callers.
 /// The nearest to a member's exact part of the pool.
 fn exact_share(pool: i64, total: u64, units: u32) -> i64
     requires { unsigned_abs pool * units ≤ 8000000000000000000 }

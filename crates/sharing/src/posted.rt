@@ -10,7 +10,7 @@ ghost use Rattle.sharing.specs.Members.{map_unused};
 use crate::domain::{in_domain, total_or_clear};
 use crate::laying::lay;
 use crate::rule::Rule;
-use cents::rounding::nearest;
+use cents::rounding::{nearest, nearest_cents};
 
 /// The rate of a unit, in hundredths of a cent; 0 where nothing can be shared.
 pub fn posted_rate(pool: i64, total: u64) -> i64
@@ -22,13 +22,12 @@ pub fn posted_rate(pool: i64, total: u64) -> i64
     nearest(100 * pool, total)
 }
 
-// A year's charge has this form too: one for both would be public, with a bound asked of callers.
 /// What a member's units bear at a rate, in cents.
 fn posted_share(rate: i64, units: u32) -> i64
     requires { unsigned_abs rate * units ≤ 1000000000000 }
     ensures { result ≡ posted_share rate units }
 {
-    nearest(rate * i64::from(units), 100)
+    nearest_cents(rate * i64::from(units))
 }
 
 /// Each member bears its units at one rate, which is posted to the nearest hundredth of a cent.

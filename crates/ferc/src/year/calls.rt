@@ -8,17 +8,16 @@ ghost use Rattle.ferc.specs.Years.{month_rule, charge_of, charges, Adds};
 use crate::rate::YearFigures;
 use crate::year::FercYear;
 use book::book::Book;
-use cents::rounding::nearest;
+use cents::rounding::nearest_cents;
 use cents::totals::sum_of;
 use refusal::{Fault, Layer, Refusal};
 
-/// A member's charge of a month at a rate. The sharing rule's posted share is the same sum: one for
-/// both would be a public function that asks its callers for a bound.
+/// A member's charge of a month at a rate.
 fn charge(rate: i64, units: u32) -> i64
     requires { unsigned_abs rate * units ≤ 2000000000000000 }
     ensures { result ≡ charge_of rate units }
 {
-    nearest(rate * i64::from(units), 100)
+    nearest_cents(rate * i64::from(units))
 }
 
 /// The cents of a month's statement.
