@@ -18,7 +18,7 @@ use Rattle.runs.specs.declared.done.Done.{Done}
 use Rattle.runs.specs.Orders.{Deed, World, Carried, book, bill, resettle, carried, ended_of, answer_of, standing_after, history_after, cells_after, reached, run_through}
 use Rattle.runs.specs.Runs.{no_deed, before, Ran}
 use Rattle.journal_run.specs.Meanings.{by_rows, deed_by_rows}
-use Rattle.journal_run.proofs.Figures.{Figures, no_calls, booked_more, billed_more, resettled_more, accounts_same}
+use Rattle.journal_run.proofs.Figures.{Figures, no_calls, booked_more, billed_more, resettled_more, promise_same, invariant_same}
 use Rattle.journal_run.proofs.Rows.{rows_again}
 
 bill_alike : (shares : Shares) (cut : Cut) (s : Standing) (b : Reading) (cells : ℕ) → bill_rule shares cut s b cells ≡ bill_rule shares cut s (by_rows b) cells
@@ -107,7 +107,8 @@ module _ (t : Terms) (w : World) (new : w.history ≡ []) (deeds : List Deed) wh
       let width = 13 * t.members in
       record {
         stands = r.stands ∙ a.stands;
-        kept = accounts_same (run_through t w (map deed_by_rows deeds)).history (run_through t w deeds).history a.figures t s r.kept;
+        promise = promise_same (run_through t w (map deed_by_rows deeds)).history (run_through t w deeds).history a.figures t s r.promise;
+        invariant = invariant_same (run_through t w (map deed_by_rows deeds)).history (run_through t w deeds).history a.figures t s r.invariant;
         outcome = λ i l.
             let d = get_or deeds i no_deed in
             r.outcome i (omega (arith, n, l)) ∙ (same t (before t w deeds i) d).answer ∙ ap (λ (u : Standing). answer_of t u (deed_by_rows d)) (before_alike i)

@@ -1,12 +1,12 @@
 -- The figures of a history, where its calls are remembered by their members' rows alone.
-use Rattle.std.proofs.Common.{◌≡◌, ℕ, ◌<◌, ◌&&◌, cond, eqb, List, [], ◌∷◌, sum, ℤ, pos, ◌+ℤ◌, refl, ap, sym, subst, ◌∙◌}
+use Rattle.std.proofs.Common.{◌≡◌, ℕ, ◌<◌, ◌&&◌, cond, eqb, List, [], ◌∷◌, get_or, sum, ℤ, pos, ◌+ℤ◌, refl, ap, sym, subst, ◌∙◌}
 use Rattle.cents.specs.Cutting.{sum_z}
 use Rattle.tariff.specs.Heads.{at, sums}
 use Rattle.ledger.specs.Readings.{Reading, units_read}
 use Rattle.ledger.specs.Standings.{Standing}
 use Rattle.ledger.specs.Billing.{Cut}
 use Rattle.ledger.specs.Histories.{History, booked, billed, resettled, cents_booked, cents_billed, row_of, billed_of, waiting, cost_of, pool_of, units_of, cents_of, months_billed}
-use Rattle.ledger.specs.Kept.{Terms, OnFile, Kept}
+use Rattle.ledger.specs.Kept.{Terms, OnFile, Promise, Invariant}
 use Rattle.journal_run.specs.Meanings.{by_rows}
 use Rattle.journal_run.proofs.Rows.{units_same}
 
@@ -76,25 +76,32 @@ module _ (g h : History) (f : Figures g h) where
     months_same = f.months_same;
   }
 
-  -- so the accounts that the one keeps are those of the other
-  pub accounts_same : (t : Terms) (s : Standing) → Kept t h s → Kept t g s
-  accounts_same t s kept =
-      let on : (k : ℕ) → OnFile t g k → OnFile t h k = λ k o. rw f.months_same at o in
+  on_file_same : (t : Terms) (k : ℕ) → OnFile t g k → OnFile t h k
+  on_file_same t k o = rw f.months_same at o
+
+  -- so what is promised of the one is promised of the other
+  pub promise_same : (t : Terms) (s : Standing) → Promise t h s → Promise t g s
+  promise_same t s p =
       record {
-        adds_up = rw (f.booked_same, f.billed_same) kept.adds_up;
-        balance = λ c l. rw (f.cost_same t.cut c, f.each_same c) (kept.balance c l);
-        share = λ k c m o lc lm. rw (f.cents_same k c m, f.pool_same t.cut k c, f.units_last k c) (kept.share k c m (on k o) lc lm);
-        unused = λ k c m o lc lm z. f.cents_same k c m ∙ kept.unused k c m (on k o) lc lm (sym (ap sum (f.units_last k c)) ∙ z);
-        near = λ k c m o lc lm p. rw (f.cents_same k c m, f.pool_same t.cut k c, f.units_last k c) (kept.near k c m (on k o) lc lm (subst (λ (us : List ℕ). 0 < sum us) (f.units_last k c) p));
-        line = λ k c m o lc lm. rw (f.cents_same k c m, f.units_last k c) (kept.line k c m (on k o) lc lm);
-        waits = kept.waits ∙ sym f.waiting_same;
-        months = rw f.months_same kept.months;
-        current = rw f.months_same kept.current;
-        begun = kept.begun;
-        peopled = kept.peopled;
-        pool = λ k c o lc. kept.pool k c (on k o) lc ∙ sym (f.pool_same t.cut k c);
-        pool_small = λ k c o lc. rw (f.pool_same t.cut k c) (kept.pool_small k c (on k o) lc);
-        units_small = λ k c o lc. rw (f.units_last k c) (kept.units_small k c (on k o) lc);
-        units_long = λ k c o lc. rw (f.units_last k c) (kept.units_long k c (on k o) lc);
-        unbilled = λ k c m p. f.cents_same k c m ∙ kept.unbilled k c m (rw f.months_same at p);
+        adds_up = rw (f.booked_same, f.billed_same) p.adds_up;
+        waits = p.waits ∙ sym f.waiting_same;
+        balance = λ c l. rw (f.cost_same t.cut c, f.each_same c) (p.balance c l);
+        share = λ k c m o lc lm. rw (f.cents_same k c m, f.pool_same t.cut k c, f.units_last k c) (p.share k c m (on_file_same t k o) lc lm);
+        unused = λ k c m o lc lm z. f.cents_same k c m ∙ p.unused k c m (on_file_same t k o) lc lm (ap (λ (us : List ℕ). get_or us m 0) (sym (f.units_last k c)) ∙ z);
+        near = λ k c m o lc lm u. rw (f.cents_same k c m, f.pool_same t.cut k c, f.units_last k c) (p.near k c m (on_file_same t k o) lc lm (subst (λ (us : List ℕ). 0 < sum us) (f.units_last k c) u));
+        line = λ k c m o lc lm. rw (f.cents_same k c m, f.units_last k c) (p.line k c m (on_file_same t k o) lc lm);
+      }
+
+  pub invariant_same : (t : Terms) (s : Standing) → Invariant t h s → Invariant t g s
+  invariant_same t s i =
+      record {
+        months = rw f.months_same i.months;
+        current = rw f.months_same i.current;
+        begun = i.begun;
+        peopled = i.peopled;
+        pool = λ k c o lc. i.pool k c (on_file_same t k o) lc ∙ sym (f.pool_same t.cut k c);
+        pool_small = λ k c o lc. rw (f.pool_same t.cut k c) (i.pool_small k c (on_file_same t k o) lc);
+        units_small = λ k c o lc. rw (f.units_last k c) (i.units_small k c (on_file_same t k o) lc);
+        units_long = λ k c o lc. rw (f.units_last k c) (i.units_long k c (on_file_same t k o) lc);
+        unbilled = λ k c m p. f.cents_same k c m ∙ i.unbilled k c m (rw f.months_same at p);
       }

@@ -45,7 +45,7 @@ module _ {M : Type 0} (entries : List Entry) (es : List (Bor Entry)) (os : List 
         new = refl;
         outcome = λ i l. r.ran.outcome i (omega (arith, k, l));
         cell = λ i l. r.ran.cell i (omega (arith, k, l));
-        adds_up = rw (r.held_is, r.waiting_is) r.ran.kept.adds_up;
+        adds_up = rw (r.held_is, r.waiting_is) r.ran.promise.adds_up;
         held_is = r.held_is;
         waiting_is = r.waiting_is;
       }

@@ -1,5 +1,5 @@
 -- A bill keeps the accounts.
-use Rattle.std.proofs.Common.{◌≡◌, ℕ, zero, suc, ◌+◌, ◌*◌, ◌%◌, ◌<◌, ◌≤◌, true, false, eqb, List, [], ◌∷◌, map, length, get_or, take, set, ℤ, pos, ◌+ℤ◌, ◌-ℤ◌, nat_abs, Ok, Err, sum, Result, sym, refl, ap, ◌∙◌, subst, ⊎_elim, mul-le-mul_right, arith, MatchResult}
+use Rattle.std.proofs.Common.{◌≡◌, ℕ, zero, suc, ◌+◌, ◌*◌, ◌%◌, ◌<◌, ◌≤◌, true, false, eqb, List, [], ◌∷◌, map, length, get_or, take, set, ℤ, pos, ◌+ℤ◌, ◌-ℤ◌, nat_abs, Ok, Err, sum, Result, sym, refl, ap, ◌∙◌, subst, ⊎_elim, mul-le-mul_right, arith}
 use borrow.Author.Differences.{ints}
 use Rattle.refusal.specs.Answers.{Told, done, refused, answer, next, after, number}
 use Rattle.refusal.specs.declared.Fault.{Fault}
@@ -17,7 +17,7 @@ use Rattle.ledger.specs.Readings.{Reading, rows_read, units_read}
 use Rattle.ledger.specs.Files.{no_line, row_at, line_at, lines_of, units_laid, part}
 use Rattle.ledger.specs.Standings.{Standing, account_at, balances}
 use Rattle.ledger.specs.Billing.{billed_accounts, bill_check, bill_leaves, bill_rule, pools_for}
-use Rattle.ledger.specs.Histories.{History, billed, billed_of, cost_of, pool_of, units_of, cents_of, row_of, months_billed}
+use Rattle.ledger.specs.Histories.{History, billed, history_with, billed_of, cost_of, pool_of, units_of, cents_of, row_of, months_billed}
 use Rattle.ledger.specs.Kept.{Terms, Kept, OnFile, bills}
 use Rattle.ledger.proofs.Closed.{pool_at, pools_length}
 use Rattle.ledger.proofs.Laid.{column_length, lines_at_lem, lines_length, laid_length}
@@ -74,13 +74,13 @@ module _ (t : Terms) (law : LawfulRule t) (h : History) (s : Standing) (b : Read
   now' = billed b written ∷ h
 
   count : b.count ≡ t.members
-  count = passed.count ∙ k.peopled
+  count = passed.count ∙ k.invariant.peopled
 
   rows_long : length rows ≡ t.members
   rows_long = rows_length b.held 0 b.count ∙ count
 
   month : b.month ≡ t.first + bills h
-  month = passed.month ∙ k.current
+  month = passed.month ∙ k.invariant.current
 
   charge_long : (c : ℕ) → length (charge t.shares pools rows c) ≡ t.members
   charge_long c = law.long (get_or pools c (pos 0)) (column rows (kind_of c)) ∙ column_length rows (kind_of c) ∙ rows_long
@@ -88,8 +88,8 @@ module _ (t : Terms) (law : LawfulRule t) (h : History) (s : Standing) (b : Read
   pool_here : (c : ℕ) → c < 13 → get_or pools c (pos 0) ≡ cost_of t.cut c now' -ℤ billed_of c h
   pool_here c l =
       let p = pool_at (t.cut s.heads) s.accounts c (omega arith) (omega arith) in
-      let w = ap (λ (hs : List ℤ). at (t.cut hs) c) k.waits in
-      omega (arith, ints, p, w, k.balance c l)
+      let w = ap (λ (hs : List ℤ). at (t.cut hs) c) k.promise.waits in
+      omega (arith, ints, p, w, k.promise.balance c l)
 
   -- the statement's rows are the shares
   row_here : (c : ℕ) → c < 13 → row_of b written c ≡ charge t.shares pools rows c
@@ -129,7 +129,7 @@ module _ (t : Terms) (law : LawfulRule t) (h : History) (s : Standing) (b : Read
     cents_here m =
         let x = cond-true (eqb b.month b.month) (at (row_of b written c) m) (pos 0) this in
         let y = ap (λ (zs : List ℤ). at zs m) (row_here c l) in
-        let z = k.unbilled b.month c m (omega (arith, month)) in
+        let z = k.invariant.unbilled b.month c m (omega (arith, month)) in
         omega (arith, ints, x, y, z)
 
   -- another month on file
@@ -161,7 +161,7 @@ module _ (t : Terms) (law : LawfulRule t) (h : History) (s : Standing) (b : Read
   start = row_at s.accounts.members s.accounts.month 0
 
   start_is : start ≡ (b.month % 6 * 13 + 0) * t.members
-  start_is = rw (← passed.month, k.peopled) refl
+  start_is = rw (← passed.month, k.invariant.peopled) refl
 
   written_long : length written ≡ 13 * t.members
   written_long = ap length (cells_laid t.shares pools rows 13) ∙ laid_long (charge t.shares pools rows) t.members charge_long 13
@@ -175,7 +175,7 @@ module _ (t : Terms) (law : LawfulRule t) (h : History) (s : Standing) (b : Read
   start_fits : start ≤ length s.file
   start_fits =
       let m : b.month % 6 * 13 + 0 ≤ 78 = omega arith in
-      omega (arith, start_is, passed.file, k.peopled, mul-le-mul_right t.members m)
+      omega (arith, start_is, passed.file, k.invariant.peopled, mul-le-mul_right t.members m)
 
   line_here : (c m : ℕ) → c < 13 → m < t.members → get_or left.file (line_at t.members b.month c m) no_line ≡ record { units = get_or (units_read b c) m 0; cents = at (charge t.shares pools rows c) m }
   line_here c m l i =
@@ -208,54 +208,58 @@ module _ (t : Terms) (law : LawfulRule t) (h : History) (s : Standing) (b : Read
   share i c m o l n =
       by_month (λ i. OnFile t now' i → cents_of i c m now' ≡ at (t.shares (pool_of t.cut i c now') (units_of i c now')) m) i
       (λ _. rw (units_here c l, pool_of_lem c l) (cents_here c l m))
-      (λ ne o. rw (units_other i ne c, pool_other i ne c, cents_other i ne c m) (k.share i c m (on_file i ne o) l n))
+      (λ ne o. rw (units_other i ne c, pool_other i ne c, cents_other i ne c m) (k.promise.share i c m (on_file i ne o) l n))
       o
 
   pool_small : (i c : ℕ) → OnFile t now' i → c < 13 → nat_abs (pool_of t.cut i c now') ≤ 4000000000
   pool_small i c o l =
       by_month (λ i. OnFile t now' i → nat_abs (pool_of t.cut i c now') ≤ 4000000000) i
       (λ _. rw (pool_of_lem c l) (passed.pools_in c))
-      (λ ne o. rw (pool_other i ne c) (k.pool_small i c (on_file i ne o) l))
+      (λ ne o. rw (pool_other i ne c) (k.invariant.pool_small i c (on_file i ne o) l))
       o
 
   units_small : (i c : ℕ) → OnFile t now' i → c < 13 → sum (units_of i c now') ≤ 2000000000
   units_small i c o l =
       by_month (λ i. OnFile t now' i → sum (units_of i c now') ≤ 2000000000) i
       (λ _. rw (units_here c l) (passed.units_in (kind_of c) (kind_below c l)))
-      (λ ne o. rw (units_other i ne c) (k.units_small i c (on_file i ne o) l))
+      (λ ne o. rw (units_other i ne c) (k.invariant.units_small i c (on_file i ne o) l))
       o
 
   pub billed_kept : Kept t now' left
   billed_kept =
       record {
-        adds_up = omega (arith, ints, k.adds_up, adds_up);
-        balance = λ c l. (let a = ap (λ (x : Account). x.balance) (account_here c l) in let p = pool_here c l in let r = ap sum_z (row_here c l) in omega (arith, ints, a, p, r));
-        share = share;
-        unused = λ i c m o l n z. none_unused t law (pool_of t.cut i c now') (units_of i c now') m (cents_of i c m now') (share i c m o l n) z;
-        near = λ i c m o l n u. some_near t law (pool_of t.cut i c now') (units_of i c now') m (cents_of i c m now') (share i c m o l n) (pool_small i c o l) (units_small i c o l) u;
-        line = λ i c m o l n.
-            by_month (λ i. OnFile t now' i → get_or left.file (line_at t.members i c m) no_line ≡ record { units = get_or (units_of i c now') m 0; cents = cents_of i c m now' }) i
-            (λ _. rw (units_here c l, cents_here c l m) (line_here c m l n))
-            (λ ne o. rw (units_other i ne c, cents_other i ne c m) (line_other i c m ne o l n ∙ k.line i c m (on_file i ne o) l n))
-            o;
-        waits = refl;
-        months = ap (λ (m : ℕ). m ∷ months_billed h) month ∙ ap (λ (ms : List ℕ). (t.first + bills h) ∷ ms) k.months;
-        current = omega (arith, k.current);
-        begun = k.begun;
-        peopled = k.peopled;
-        pool = λ i c o l.
-            by_month (λ i. OnFile t now' i → get_or (account_at left.accounts c).pools (i % 6) (pos 0) ≡ pool_of t.cut i c now') i
-            (λ _. rw (pool_of_lem c l) (ap (λ (x : Account). get_or x.pools (b.month % 6) (pos 0)) (account_here c l) ∙ ap (λ (n : ℕ). get_or (set (account_at s.accounts c).pools (s.accounts.month % 6) (get_or pools c (pos 0))) (n % 6) (pos 0)) passed.month ∙ get_or-set_same (account_at s.accounts c).pools (s.accounts.month % 6) (get_or pools c (pos 0)) (pos 0) (omega (arith, slots c l))))
-            (λ ne o. rw (pool_other i ne c) (ap (λ (x : Account). get_or x.pools (i % 6) (pos 0)) (account_here c l) ∙ get_or-set_other (account_at s.accounts c).pools (s.accounts.month % 6) (i % 6) (get_or pools c (pos 0)) (pos 0) (λ e. slot_apart i ne o (e ∙ ap (λ (n : ℕ). n % 6) (sym passed.month))) ∙ k.pool i c (on_file i ne o) l))
-            o;
-        pool_small = pool_small;
-        units_small = units_small;
-        units_long = λ i c o l.
-            by_month (λ i. OnFile t now' i → length (units_of i c now') ≡ t.members) i
-            (λ _. rw (units_here c l) (column_length rows (kind_of c) ∙ rows_long))
-            (λ ne o. rw (units_other i ne c) (k.units_long i c (on_file i ne o) l))
-            o;
-        unbilled = λ i c m o. (let ne : b.month ≡ i → ⊥ = λ e. omega (arith, month, o) in cents_other i ne c m ∙ k.unbilled i c m (omega (arith, o)));
+        promise = record {
+          adds_up = omega (arith, ints, k.promise.adds_up, adds_up);
+          waits = refl;
+          balance = λ c l. (let a = ap (λ (x : Account). x.balance) (account_here c l) in let p = pool_here c l in let r = ap sum_z (row_here c l) in omega (arith, ints, a, p, r));
+          share = share;
+          unused = λ i c m o l n z. none_unused t law (pool_of t.cut i c now') (units_of i c now') m (cents_of i c m now') (share i c m o l n) z;
+          near = λ i c m o l n u. some_near t law (pool_of t.cut i c now') (units_of i c now') m (cents_of i c m now') (share i c m o l n) (pool_small i c o l) (units_small i c o l) u;
+          line = λ i c m o l n.
+              by_month (λ i. OnFile t now' i → get_or left.file (line_at t.members i c m) no_line ≡ record { units = get_or (units_of i c now') m 0; cents = cents_of i c m now' }) i
+              (λ _. rw (units_here c l, cents_here c l m) (line_here c m l n))
+              (λ ne o. rw (units_other i ne c, cents_other i ne c m) (line_other i c m ne o l n ∙ k.promise.line i c m (on_file i ne o) l n))
+              o;
+        };
+        invariant = record {
+          months = ap (λ (m : ℕ). m ∷ months_billed h) month ∙ ap (λ (ms : List ℕ). (t.first + bills h) ∷ ms) k.invariant.months;
+          current = omega (arith, k.invariant.current);
+          begun = k.invariant.begun;
+          peopled = k.invariant.peopled;
+          pool = λ i c o l.
+              by_month (λ i. OnFile t now' i → get_or (account_at left.accounts c).pools (i % 6) (pos 0) ≡ pool_of t.cut i c now') i
+              (λ _. rw (pool_of_lem c l) (ap (λ (x : Account). get_or x.pools (b.month % 6) (pos 0)) (account_here c l) ∙ ap (λ (n : ℕ). get_or (set (account_at s.accounts c).pools (s.accounts.month % 6) (get_or pools c (pos 0))) (n % 6) (pos 0)) passed.month ∙ get_or-set_same (account_at s.accounts c).pools (s.accounts.month % 6) (get_or pools c (pos 0)) (pos 0) (omega (arith, slots c l))))
+              (λ ne o. rw (pool_other i ne c) (ap (λ (x : Account). get_or x.pools (i % 6) (pos 0)) (account_here c l) ∙ get_or-set_other (account_at s.accounts c).pools (s.accounts.month % 6) (i % 6) (get_or pools c (pos 0)) (pos 0) (λ e. slot_apart i ne o (e ∙ ap (λ (n : ℕ). n % 6) (sym passed.month))) ∙ k.invariant.pool i c (on_file i ne o) l))
+              o;
+          pool_small = pool_small;
+          units_small = units_small;
+          units_long = λ i c o l.
+              by_month (λ i. OnFile t now' i → length (units_of i c now') ≡ t.members) i
+              (λ _. rw (units_here c l) (column_length rows (kind_of c) ∙ rows_long))
+              (λ ne o. rw (units_other i ne c) (k.invariant.units_long i c (on_file i ne o) l))
+              o;
+          unbilled = λ i c m o. (let ne : b.month ≡ i → ⊥ = λ e. omega (arith, month, o) in cents_other i ne c m ∙ k.invariant.unbilled i c m (omega (arith, o)));
+        };
       }
 
 -- accepted or refused
@@ -265,7 +269,7 @@ pub bill_keeps : (t : Terms) (law : LawfulRule t) (h : History) (s s' : Standing
     → answer r ≡ next (bill_rule t.shares t.cut s b (length cells)) (λ left. done left.components)
     → s' ≡ after (bill_rule t.shares t.cut s b (length cells)) (λ left. left.standing) s
     → cells' ≡ after (bill_rule t.shares t.cut s b (length cells)) (λ left. left.cells) cells
-    → Kept t h s → MatchResult r (λ _. Kept t (billed b cells' ∷ h) s') (λ _. Kept t h s')
+    → Kept t h s → Kept t (history_with r (billed b cells') h) s'
 bill_keeps t law h s s' b cells cells' r low high whole thirteen accounts slots told es ec k =
     go (bill_check s.accounts (pools_for t.cut s) b (length s.file) (length cells)) refl r told es ec
   where
@@ -273,7 +277,7 @@ bill_keeps t law h s s' b cells cells' r low high whole thirteen accounts slots 
         → answer r ≡ next (next checked (λ _. done (bill_leaves t.shares t.cut s b))) (λ left. done left.components)
         → s' ≡ after (next checked (λ _. done (bill_leaves t.shares t.cut s b))) (λ left. left.standing) s
         → cells' ≡ after (next checked (λ _. done (bill_leaves t.shares t.cut s b))) (λ left. left.cells) cells
-        → MatchResult r (λ _. Kept t (billed b cells' ∷ h) s') (λ _. Kept t h s')
+        → Kept t (history_with r (billed b cells') h) s'
     go (done v) e (Ok x) told es ec =
         let passed = bill_passed s.accounts (pools_for t.cut s) b (length s.file) (length cells) low high e in
         let new = billed_kept t law h s b k (length cells) passed whole thirteen accounts slots in

@@ -1,5 +1,5 @@
 -- A booking keeps the accounts.
-use Rattle.std.proofs.Common.{◌≡◌, Bool, true, false, cond, List, [], ◌∷◌, length, ℤ, ◌+ℤ◌, Ok, Err, Result, sym, refl, ap, ◌∙◌, subst, arith, MatchResult}
+use Rattle.std.proofs.Common.{◌≡◌, Bool, true, false, cond, List, [], ◌∷◌, length, ℤ, ◌+ℤ◌, Ok, Err, Result, sym, refl, ap, ◌∙◌, subst, arith}
 use borrow.Author.Differences.{ints}
 use Rattle.cents.specs.Cutting.{sum_z}
 use Rattle.cents.specs.Passes.{all_pass}
@@ -10,7 +10,7 @@ use Rattle.tariff.specs.Heads.{sums, within, book_rule}
 use Rattle.ledger.specs.declared.unbooked.Unbooked.{Unbooked}
 use Rattle.ledger.specs.Standings.{Standing, standing}
 use Rattle.ledger.specs.Booking.{booking_told}
-use Rattle.ledger.specs.Histories.{History, booked}
+use Rattle.ledger.specs.Histories.{History, booked, history_with}
 use Rattle.ledger.specs.Kept.{Terms, Kept}
 
 pub sums_total : (xs ys : List ℤ) → length xs ≡ length ys → sum_z (sums xs ys) ≡ sum_z xs +ℤ sum_z ys
@@ -24,31 +24,35 @@ booked_kept : (t : Terms) (h : History) (s : Standing) (amounts heads : List ℤ
 booked_kept t h s amounts heads l e k =
     let total = ap sum_z e ∙ sums_total s.heads amounts l in
     record {
-      adds_up = omega (arith, ints, k.adds_up, total);
-      balance = k.balance;
-      share = k.share;
-      unused = k.unused;
-      near = k.near;
-      line = k.line;
-      waits = e ∙ ap (λ (hs : List ℤ). sums hs amounts) k.waits;
-      months = k.months;
-      current = k.current;
-      begun = k.begun;
-      peopled = k.peopled;
-      pool = k.pool;
-      pool_small = k.pool_small;
-      units_small = k.units_small;
-      units_long = k.units_long;
-      unbilled = k.unbilled;
+      promise = record {
+        adds_up = omega (arith, ints, k.promise.adds_up, total);
+        waits = e ∙ ap (λ (hs : List ℤ). sums hs amounts) k.promise.waits;
+        balance = k.promise.balance;
+        share = k.promise.share;
+        unused = k.promise.unused;
+        near = k.promise.near;
+        line = k.promise.line;
+      };
+      invariant = record {
+        months = k.invariant.months;
+        current = k.invariant.current;
+        begun = k.invariant.begun;
+        peopled = k.invariant.peopled;
+        pool = k.invariant.pool;
+        pool_small = k.invariant.pool_small;
+        units_small = k.invariant.units_small;
+        units_long = k.invariant.units_long;
+        unbilled = k.invariant.unbilled;
+      };
     }
 
 pub booking_keeps : (t : Terms) (h : History) (s : Standing) (amounts heads : List ℤ) (r : Result (Unit {0}) Unbooked) → length s.heads ≡ length amounts
     → booking_told r ≡ bare (book_rule s.heads amounts) → heads ≡ after (book_rule s.heads amounts) (λ sums. sums) s.heads → Kept t h s
-    → MatchResult r (λ _. Kept t (booked amounts ∷ h) (standing heads s.accounts s.file)) (λ _. Kept t h (standing heads s.accounts s.file))
+    → Kept t (history_with r (booked amounts) h) (standing heads s.accounts s.file)
 booking_keeps t h s amounts heads r l told after' k = go (all_pass within (sums s.heads amounts)) r told after'
   where
     go : (b : Bool) (r : Result (Unit {0}) Unbooked) → booking_told r ≡ bare (cond b (done (sums s.heads amounts)) (refused 14 layer.Ledger 0)) → heads ≡ after (cond b (done (sums s.heads amounts)) (refused 14 layer.Ledger 0)) (λ sums. sums) s.heads
-        → MatchResult r (λ _. Kept t (booked amounts ∷ h) (standing heads s.accounts s.file)) (λ _. Kept t h (standing heads s.accounts s.file))
+        → Kept t (history_with r (booked amounts) h) (standing heads s.accounts s.file)
     go true (Ok v) told e = booked_kept t h s amounts heads l e k
     go true (Err u) told e = absurd (refused_done (number u.fault.refusal) u.fault.layer u.fault.place tt told)
     go false (Ok v) told e = absurd (done_refused tt 14 layer.Ledger 0 told)

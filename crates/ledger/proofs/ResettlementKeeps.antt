@@ -1,5 +1,5 @@
 -- A resettlement keeps the accounts.
-use Rattle.std.proofs.Common.{◌≡◌, ℕ, zero, suc, ◌+◌, ◌-◌, ◌*◌, ◌%◌, ◌<◌, ◌≤◌, true, false, ◌&&◌, eqb, ltb, leb, List, [], ◌∷◌, length, get_or, drop, set, ℤ, pos, ◌+ℤ◌, ◌-ℤ◌, Ok, Err, sum, Result, sym, refl, ap, ◌∙◌, subst, ⊎_elim, mul-le-mul_right, arith, MatchResult}
+use Rattle.std.proofs.Common.{◌≡◌, ℕ, zero, suc, ◌+◌, ◌-◌, ◌*◌, ◌%◌, ◌<◌, ◌≤◌, true, false, ◌&&◌, eqb, ltb, leb, List, [], ◌∷◌, length, get_or, drop, set, ℤ, pos, ◌+ℤ◌, ◌-ℤ◌, Ok, Err, sum, Result, sym, refl, ap, ◌∙◌, subst, ⊎_elim, mul-le-mul_right, arith}
 use borrow.Author.Differences.{ints}
 use Rattle.std.proofs.lemmas.List.{length-map, length-drop, length-take-le, map-set, get_or-take, get_or-drop}
 use Rattle.std.proofs.lemmas.Bool.{cond-true, cond-false, eq-eqb, ne_eqb, and_parts, and_from, and_left, and_right, leb-true, ltb-true, cases_eq, cases_lt}
@@ -17,7 +17,7 @@ use Rattle.ledger.specs.Files.{no_line, row_at, line_at, lines_of}
 use Rattle.ledger.specs.Standings.{Standing, account_at, balances, is_on_file}
 use Rattle.ledger.specs.Billing.{Left, memory_rule}
 use Rattle.ledger.specs.Resettling.{reconciled, differences, lines_at, shares_again, balance_left, change_rule, resettle_leaves, month_rule, resettle_rule}
-use Rattle.ledger.specs.Histories.{History, resettled, billed_of, cost_of, pool_of, units_of, cents_of}
+use Rattle.ledger.specs.Histories.{History, resettled, history_with, billed_of, cost_of, pool_of, units_of, cents_of}
 use Rattle.ledger.specs.Kept.{Terms, Kept, OnFile}
 use Rattle.ledger.proofs.Closed.{balance_at}
 use Rattle.ledger.proofs.Laid.{column_length, lines_at_lem, lines_length}
@@ -55,7 +55,7 @@ module _ (t : Terms) (law : LawfulRule t) (h : History) (s : Standing) (b : Read
   now' = resettled c₀ b changes ∷ h
 
   count : b.count ≡ t.members
-  count = count' ∙ k.peopled
+  count = count' ∙ k.invariant.peopled
 
   units_long : length units ≡ t.members
   units_long = column_length (rows_read b) (kind_of c₀) ∙ rows_length b.held 0 b.count ∙ count
@@ -67,23 +67,23 @@ module _ (t : Terms) (law : LawfulRule t) (h : History) (s : Standing) (b : Read
   start = row_at s.accounts.members b.month c₀
 
   start_is : start ≡ (b.month % 6 * 13 + c₀) * t.members
-  start_is = rw k.peopled refl
+  start_is = rw k.invariant.peopled refl
 
   start_fits : start + t.members ≤ length s.file
-  start_fits = omega (arith, start_is, row_fits t.members b.month c₀ l₀, file, k.peopled)
+  start_fits = omega (arith, start_is, row_fits t.members b.month c₀ l₀, file, k.invariant.peopled)
 
   lines_long : length lines ≡ t.members
-  lines_long = length-take-le s.accounts.members (drop start s.file) (omega (arith, length-drop start s.file, start_fits, k.peopled)) ∙ k.peopled
+  lines_long = length-take-le s.accounts.members (drop start s.file) (omega (arith, length-drop start s.file, start_fits, k.invariant.peopled)) ∙ k.invariant.peopled
 
   pool_is : get_or (account_at s.accounts c₀).pools (b.month % 6) (pos 0) ≡ pool_of t.cut b.month c₀ h
-  pool_is = k.pool b.month c₀ on l₀
+  pool_is = k.invariant.pool b.month c₀ on l₀
 
   -- the cents of a line are what was billed to date
   line_cents : (m : ℕ) → m < t.members → (get_or lines m no_line).cents ≡ cents_of b.month c₀ m h
   line_cents m i =
-      let e : get_or lines m no_line ≡ get_or s.file (start + m) no_line = get_or-take s.accounts.members (drop start s.file) m no_line (omega (arith, k.peopled)) ∙ get_or-drop start s.file m no_line in
+      let e : get_or lines m no_line ≡ get_or s.file (start + m) no_line = get_or-take s.accounts.members (drop start s.file) m no_line (omega (arith, k.invariant.peopled)) ∙ get_or-drop start s.file m no_line in
       let f = ap (λ (n : ℕ). get_or s.file n no_line) {x = start + m} {y = line_at t.members b.month c₀ m} (omega (arith, start_is)) in
-      ap (λ (x : Line). x.cents) (e ∙ f ∙ k.line b.month c₀ m on l₀ i)
+      ap (λ (x : Line). x.cents) (e ∙ f ∙ k.promise.line b.month c₀ m on l₀ i)
 
   adds_up : sum_z changes +ℤ sum_z (balances left.accounts) ≡ sum_z (balances s.accounts)
   adds_up =
@@ -166,28 +166,28 @@ module _ (t : Terms) (law : LawfulRule t) (h : History) (s : Standing) (b : Read
   share i c m o l n =
       by_pair (λ i c. OnFile t h i → c < 13 → cents_of i c m now' ≡ at (t.shares (pool_of t.cut i c h) (units_of i c now')) m) i c
       (λ _ _. rw units_here (cents_here m n ∙ ap (λ (p : ℤ). at (t.shares p units) m) pool_is))
-      (λ ne o l. rw (units_other i c ne, cents_other i c ne m) (k.share i c m o l n))
+      (λ ne o l. rw (units_other i c ne, cents_other i c ne m) (k.promise.share i c m o l n))
       o l
 
   units_small : (i c : ℕ) → OnFile t h i → c < 13 → sum (units_of i c now') ≤ 2000000000
   units_small i c o l =
       by_pair (λ i c. OnFile t h i → c < 13 → sum (units_of i c now') ≤ 2000000000) i c
       (λ _ _. rw units_here Units-in)
-      (λ ne o l. rw (units_other i c ne) (k.units_small i c o l))
+      (λ ne o l. rw (units_other i c ne) (k.invariant.units_small i c o l))
       o l
 
   balance_here : (account_at left.accounts c₀).balance ≡ cost_of t.cut c₀ h -ℤ billed_of c₀ now'
   balance_here =
       let x = ap (λ (a : Account). a.balance) (settled_here c₀ balance s.accounts l₀ accounts) in
       let y = cond-true (eqb c₀ c₀) (sum_z changes) (pos 0) (eq-eqb c₀ c₀ refl) in
-      let z = k.balance c₀ l₀ in
+      let z = k.promise.balance c₀ l₀ in
       omega (arith, ints, x, y, z, rest)
 
   balance_other : (c : ℕ) → c < 13 → (c₀ ≡ c → ⊥) → (account_at left.accounts c).balance ≡ cost_of t.cut c h -ℤ billed_of c now'
   balance_other c l f =
       let x = ap (λ (a : Account). a.balance) (settled_other c₀ balance s.accounts l₀ accounts c (λ e. f (sym e))) in
       let y = cond-false (eqb c₀ c) (sum_z changes) (pos 0) (ne_eqb c₀ c f) in
-      let z = k.balance c l in
+      let z = k.promise.balance c l in
       omega (arith, ints, x, y, z)
 
   balance_kept : (c : ℕ) → c < 13 → (account_at left.accounts c).balance ≡ cost_of t.cut c h -ℤ billed_of c now'
@@ -200,30 +200,34 @@ module _ (t : Terms) (law : LawfulRule t) (h : History) (s : Standing) (b : Read
   pub resettled_kept : Kept t now' left
   resettled_kept =
       record {
-        adds_up = omega (arith, ints, k.adds_up, adds_up);
-        balance = balance_kept;
-        share = share;
-        unused = λ i c m o l n z. none_unused t law (pool_of t.cut i c h) (units_of i c now') m (cents_of i c m now') (share i c m o l n) z;
-        near = λ i c m o l n u. some_near t law (pool_of t.cut i c h) (units_of i c now') m (cents_of i c m now') (share i c m o l n) (k.pool_small i c o l) (units_small i c o l) u;
-        line = λ i c m o l n.
-            by_pair (λ i c. OnFile t h i → c < 13 → get_or left.file (line_at t.members i c m) no_line ≡ record { units = get_or (units_of i c now') m 0; cents = cents_of i c m now' }) i c
-            (λ _ _. rw (units_here, cents_here m n) (line_here m n))
-            (λ ne o l. rw (units_other i c ne, cents_other i c ne m) (line_other i c m ne o l n ∙ k.line i c m o l n))
-            o l;
-        waits = k.waits;
-        months = k.months;
-        current = k.current;
-        begun = k.begun;
-        peopled = k.peopled;
-        pool = λ i c o l. ap (λ (ps : List ℤ). get_or ps (i % 6) (pos 0)) (settled_pools c₀ balance s.accounts l₀ accounts c) ∙ k.pool i c o l;
-        pool_small = k.pool_small;
-        units_small = units_small;
-        units_long = λ i c o l.
-            by_pair (λ i c. OnFile t h i → c < 13 → length (units_of i c now') ≡ t.members) i c
-            (λ _ _. rw units_here units_long)
-            (λ ne o l. rw (units_other i c ne) (k.units_long i c o l))
-            o l;
-        unbilled = λ i c m o. (let ne : b.month ≡ i → c₀ ≡ c → ⊥ = λ e _. omega (arith, on.1, o) in cents_other i c ne m ∙ k.unbilled i c m o);
+        promise = record {
+          adds_up = omega (arith, ints, k.promise.adds_up, adds_up);
+          waits = k.promise.waits;
+          balance = balance_kept;
+          share = share;
+          unused = λ i c m o l n z. none_unused t law (pool_of t.cut i c h) (units_of i c now') m (cents_of i c m now') (share i c m o l n) z;
+          near = λ i c m o l n u. some_near t law (pool_of t.cut i c h) (units_of i c now') m (cents_of i c m now') (share i c m o l n) (k.invariant.pool_small i c o l) (units_small i c o l) u;
+          line = λ i c m o l n.
+              by_pair (λ i c. OnFile t h i → c < 13 → get_or left.file (line_at t.members i c m) no_line ≡ record { units = get_or (units_of i c now') m 0; cents = cents_of i c m now' }) i c
+              (λ _ _. rw (units_here, cents_here m n) (line_here m n))
+              (λ ne o l. rw (units_other i c ne, cents_other i c ne m) (line_other i c m ne o l n ∙ k.promise.line i c m o l n))
+              o l;
+        };
+        invariant = record {
+          months = k.invariant.months;
+          current = k.invariant.current;
+          begun = k.invariant.begun;
+          peopled = k.invariant.peopled;
+          pool = λ i c o l. ap (λ (ps : List ℤ). get_or ps (i % 6) (pos 0)) (settled_pools c₀ balance s.accounts l₀ accounts c) ∙ k.invariant.pool i c o l;
+          pool_small = k.invariant.pool_small;
+          units_small = units_small;
+          units_long = λ i c o l.
+              by_pair (λ i c. OnFile t h i → c < 13 → length (units_of i c now') ≡ t.members) i c
+              (λ _ _. rw units_here units_long)
+              (λ ne o l. rw (units_other i c ne) (k.invariant.units_long i c o l))
+              o l;
+          unbilled = λ i c m o. (let ne : b.month ≡ i → c₀ ≡ c → ⊥ = λ e _. omega (arith, on.1, o) in cents_other i c ne m ∙ k.invariant.unbilled i c m o);
+        };
       }
 
 -- the months on file by the accounts are those by the history
@@ -234,7 +238,7 @@ on_file t h s i k e =
     let x = leb-true s.accounts.first i p.0 in
     let y = ltb-true i s.accounts.month q.0 in
     let z = leb-true s.accounts.month (i + 6) q.1 in
-    (omega (arith, x, k.begun), omega (arith, y, k.current), omega (arith, z, k.current))
+    (omega (arith, x, k.invariant.begun), omega (arith, y, k.invariant.current), omega (arith, z, k.invariant.current))
 
 -- what an accepted resettlement is known to keep
 accepted : (t : Terms) (law : LawfulRule t) (h : History) (s : Standing) (b : Reading) (component cells : ℕ) (left : Left) → length s.accounts.rows ≡ 13 → Kept t h s
@@ -261,14 +265,14 @@ pub resettle_keeps : (t : Terms) (law : LawfulRule t) (h : History) (s s' : Stan
     → answer r ≡ bare (resettle_rule t.shares s b component (length cells))
     → s' ≡ after (resettle_rule t.shares s b component (length cells)) (λ left. left.standing) s
     → cells' ≡ after (resettle_rule t.shares s b component (length cells)) (λ left. left.cells) cells
-    → Kept t h s → MatchResult r (λ _. Kept t (resettled (component - 1) b cells' ∷ h) s') (λ _. Kept t h s')
+    → Kept t h s → Kept t (history_with r (resettled (component - 1) b cells') h) s'
 resettle_keeps t law h s s' b component cells cells' r accounts told es ec k = go (resettle_rule t.shares s b component (length cells)) refl r told es ec
   where
     go : (x : Told Left) → x ≡ resettle_rule t.shares s b component (length cells) → (r : Result (Unit {0}) Fault) → answer r ≡ bare x → s' ≡ after x (λ left. left.standing) s → cells' ≡ after x (λ left. left.cells) cells
-        → MatchResult r (λ _. Kept t (resettled (component - 1) b cells' ∷ h) s') (λ _. Kept t h s')
-    go (done left) e (Ok v) told es ec =
+        → Kept t (history_with r (resettled (component - 1) b cells') h) s'
+    go (done given) e (Ok v) told es ec =
         subst (λ (zs : List ℤ). Kept t (resettled (component - 1) b zs ∷ h) s') (sym ec)
-        (subst (λ (u : Standing). Kept t (resettled (component - 1) b left.cells ∷ h) u) (sym es) (accepted t law h s b component (length cells) left accounts k e))
-    go (done left) e (Err f) told es ec = absurd (refused_done (number f.refusal) f.layer f.place tt told)
+        (subst (λ (u : Standing). Kept t (resettled (component - 1) b given.cells ∷ h) u) (sym es) (accepted t law h s b component (length cells) given accounts k e))
+    go (done given) e (Err f) told es ec = absurd (refused_done (number f.refusal) f.layer f.place tt told)
     go (refused n l p) e (Ok v) told es ec = absurd (done_refused tt n l p told)
     go (refused n l p) e (Err f) told es ec = subst (Kept t h) (sym es) k

@@ -1,5 +1,5 @@
 -- The accepted calls since a ledger was opened, the latest first, and the figures that follow from them alone.
-use Rattle.std.specs.Prelude.{ℕ, zero, suc, ◌+◌, ◌*◌, cond, ◌&&◌, List, [], ◌∷◌, ℤ, pos, ◌+ℤ◌, ◌-ℤ◌, ◌==◌}
+use Rattle.std.specs.Prelude.{ℕ, zero, suc, ◌+◌, ◌*◌, cond, ◌&&◌, Ok, Err, Result, List, [], ◌∷◌, ℤ, pos, ◌+ℤ◌, ◌-ℤ◌, ◌==◌}
 use Rattle.cents.specs.Cutting.{sum_z}
 use Rattle.tariff.specs.Heads.{at, sums}
 use Rattle.ledger.specs.Readings.{Reading, units_read}
@@ -16,6 +16,11 @@ pub data Event : Type 0 where
 
 abbrev pub History : Type 0
 History = List Event
+
+-- the history with a call that was made: a refused one adds nothing
+abbrev pub history_with : {T E : Type 0} → Result T E → Event → History → History
+history_with (Ok v) event h = event ∷ h
+history_with (Err e) event h = h
 
 abbrev pub cents_booked : History → ℤ
 cents_booked [] = pos 0

@@ -10,7 +10,8 @@ use Rattle.ledger.specs.Standings.{Standing, standing}
 use Rattle.ledger.specs.Readings.{Reading}
 use Rattle.ledger.specs.Billing.{Cut, Left, bill_rule}
 use Rattle.ledger.specs.Resettling.{resettle_rule}
-use Rattle.ledger.specs.Kept.{Terms, terms}
+use Rattle.ledger.specs.Histories.{History}
+use Rattle.ledger.specs.Kept.{Terms, terms, Kept}
 
 -- how a sheet cuts six heads
 abbrev pub cut_by : Sheet → Cut
@@ -29,3 +30,7 @@ bill_of {R} {G} l file b statement = bill_rule (G.shares l.rule) (cut_by l.sheet
 
 abbrev pub resettling_of : {R : Type 0} → {G : Ghosts R} → Ledger R G → List Line → Reading → ℕ → List ℤ → Told Left
 resettling_of {R} {G} l file b component statement = resettle_rule (G.shares l.rule) (standing_of l file) b component (length statement)
+
+-- what holds after a call of the history with it, from every history whose accounts were kept before it
+abbrev pub HoldsAfter : {R : Type 0} → {G : Ghosts R} → (Terms → History → Standing → Type 0) → Ledger R G → List Line → Ledger R G → List Line → (History → History) → Type 0
+HoldsAfter Holds l file l' file' with_call = (h : History) → Kept (terms_of l) h (standing_of l file) → Holds (terms_of l) (with_call h) (standing_of l' file')

@@ -37,6 +37,6 @@ pub(crate) fn month_ledger<R: Rule + Copy + Drop>(
     let mut ledger = Ledger::blank(rule);
     ledger.open(rule, sheet, members, month.month)?;
     let voucher = cost_voucher(month.control, month.cost)?;
-    ledger.book(voucher).map_err(|unbooked| unbooked.fault)?;
+    ledger.book(voucher)?;
     Ok(ledger)
 }

@@ -1,16 +1,14 @@
 -- Booking, as an order.
-use Rattle.std.proofs.Common.{◌≡◌, List, [], ◌∷◌, ℤ, Ok, Err, Result, refl, ap, MatchResult}
-use Rattle.std.specs.Result.{IsErrAnd}
-use Rattle.refusal.specs.declared.Fault.{Fault}
-use Rattle.refusal.specs.Answers.{Told, done, refused, answer, next, bare, after}
+use Rattle.std.proofs.Common.{◌≡◌, List, [], ℤ, Ok, Err, Result, refl, ap}
+use Rattle.refusal.specs.Answers.{Told, done, refused, next, bare, after}
 use Rattle.tariff.specs.Heads.{book_rule}
 use Rattle.month_voucher.specs.Costs.{cost_rule}
 use Rattle.ledger.specs.declared.unbooked.Unbooked.{Unbooked}
 use Rattle.ledger.specs.Files.{put}
 use Rattle.ledger.specs.Standings.{Standing, standing}
 use Rattle.ledger.specs.Booking.{booking_told}
-use Rattle.ledger.specs.Histories.{History, booked}
-use Rattle.ledger.specs.Kept.{Terms, Kept}
+use Rattle.ledger.specs.Histories.{History, booked, history_with}
+use Rattle.ledger.specs.Kept.{Terms, Promise, Invariant, Kept}
 use Rattle.runs.specs.declared.done.Done.TheVariants as ended
 use Rattle.runs.specs.Orders.{book, Carried, carried, CarriedOut, cells_after}
 
@@ -18,23 +16,20 @@ module _ (t : Terms) (s : Standing) (control : ℤ) (amounts : List ℤ) where
   abbrev leaves : List ℤ → List ℤ → Carried
   leaves costs heads = record { left = record { standing = standing heads s.accounts s.file; cells = []; components = [] }; event = booked costs }
 
-  -- a balanced voucher that is booked, where `y` is what the heads say
-  pub vouched : (costs : List ℤ) (s' : Standing) (y : Told (List ℤ)) (r : Result (Unit {0}) Unbooked) → carried t s (book control amounts) ≡ next y (λ sums. done (leaves costs sums))
-      → booking_told r ≡ bare y → s' ≡ standing (after y (λ sums. sums) s.heads) s.accounts s.file
-      → ((h : History) → Kept t h s → MatchResult r (λ _. Kept t (booked costs ∷ h) s') (λ _. Kept t h s'))
+  -- a balanced voucher that was booked or refused
+  pub vouched : (costs : List ℤ) (s' : Standing) (r : Result (Unit {0}) Unbooked) → done costs ≡ cost_rule control amounts
+      → booking_told r ≡ bare (book_rule s.heads costs) → s' ≡ standing (after (book_rule s.heads costs) (λ sums. sums) s.heads) s.accounts s.file
+      → ((h : History) → Kept t h s → Promise t (history_with r (booked costs) h) s') → ((h : History) → Kept t h s → Invariant t (history_with r (booked costs) h) s')
       → CarriedOut t (book control amounts) s s' (next (booking_told r) (λ _. done ended.Booked))
-  vouched costs s' (done sums) (Ok v) e told es law = record { told = rw e refl; stands = rw e es; kept = λ h k. rw e (law h k) }
-  vouched costs s' (done sums) (Err u) e told es law = cc told
-  vouched costs s' (refused n l p) (Ok v) e told es law = cc told
-  vouched costs s' (refused n l p) (Err u) e told es law =
-      record { told = rw e (ap (λ (x : Told (Unit {0})). next x (λ _. done ended.Booked)) told); stands = rw e es; kept = λ h k. rw e (law h k) }
-
--- the fault of a refused booking is the order's
-pub booking_answers : {Q : Unbooked → Fault → Type 0} (r : Result (Unit {0}) Unbooked) (m : Result (Unit {0}) Fault) → MatchResult r (λ v. m ≡ Ok v) (λ u. IsErrAnd m (Q u))
-    → ((u : Unbooked) (f : Fault) → Q u f → f ≡ u.fault) → answer m ≡ booking_told r
-booking_answers (Ok v) m e is = ap answer e
-booking_answers (Err u) (Ok v) e is = absurd e
-booking_answers (Err u) (Err f) e is = ap (λ (x : Fault). answer {T = Unit {0}} (Err x)) (is u f e)
+  vouched costs s' r e told es promise invariant = go (book_rule s.heads costs) r (rw (← e) refl) told es (λ h k. record { promise = promise h k; invariant = invariant h k })
+    where
+      go : (y : Told (List ℤ)) (r : Result (Unit {0}) Unbooked) → carried t s (book control amounts) ≡ next y (λ sums. done (leaves costs sums)) → booking_told r ≡ bare y → s' ≡ standing (after y (λ sums. sums) s.heads) s.accounts s.file
+          → ((h : History) → Kept t h s → Kept t (history_with r (booked costs) h) s') → CarriedOut t (book control amounts) s s' (next (booking_told r) (λ _. done ended.Booked))
+      go (done sums) (Ok v) e told es kept = record { told = rw e refl; stands = rw e es; kept = λ h k. rw e (kept h k) }
+      go (done sums) (Err u) e told es kept = cc told
+      go (refused n l p) (Ok v) e told es kept = cc told
+      go (refused n l p) (Err u) e told es kept =
+          record { told = rw e (ap (λ (x : Told (Unit {0})). next x (λ _. done ended.Booked)) told); stands = rw e es; kept = λ h k. rw e (kept h k) }
 
 -- a booking writes no cells
 pub none_written : (t : Terms) (s : Standing) (control : ℤ) (amounts memory : List ℤ) → memory ≡ cells_after t s (book control amounts) memory

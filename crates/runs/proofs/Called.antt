@@ -6,8 +6,8 @@ use Rattle.refusal.specs.Answers.{Told, done, refused, answer, next, bare, after
 use Rattle.refusal.specs.declared.Fault.{Fault}
 use Rattle.ledger.specs.Files.{put}
 use Rattle.ledger.specs.Standings.{Standing}
-use Rattle.ledger.specs.Histories.{Event, History}
-use Rattle.ledger.specs.Kept.{Terms, Kept}
+use Rattle.ledger.specs.Histories.{Event, History, history_with}
+use Rattle.ledger.specs.Kept.{Terms, Promise, Invariant, Kept}
 use Rattle.ledger.proofs.Placed.{put_is, put_back}
 use Rattle.runs.specs.declared.done.Done.{Done}
 use Rattle.runs.specs.Orders.{Deed, Carried, carried, ended_of, CarriedOut}
@@ -20,14 +20,14 @@ ends_as how r = next (answer r) (λ v. done (how v))
 module _ {Y T : Type 0} (t : Terms) (d : Deed) (s s' : Standing) (cells cells' : List ℤ) (leaves : Y → Carried) (event : List ℤ → Event) (tell : Y → T) (how : T → Done) where
   pub called : (y : Told Y) (r : Result T Fault) → carried t s d ≡ next y (λ v. done (leaves v)) → ((v : Y) → ended_of d (leaves v) ≡ how (tell v)) → ((v : Y) → (leaves v).event ≡ event (leaves v).left.cells)
       → answer r ≡ next y (λ v. done (tell v)) → s' ≡ after y (λ v. (leaves v).left.standing) s → cells' ≡ after y (λ v. (leaves v).left.cells) cells
-      → ((h : History) → Kept t h s → MatchResult r (λ _. Kept t (event cells' ∷ h) s') (λ _. Kept t h s'))
+      → ((h : History) → Kept t h s → Promise t (history_with r (event cells') h) s') → ((h : History) → Kept t h s → Invariant t (history_with r (event cells') h) s')
       → CarriedOut t d s s' (ends_as how r) × (cells' ≡ after (carried t s d) (λ c. c.left.cells) cells)
-  called (done v) (Ok u) e ends events told es ec law =
-      (record { told = rw (e, ends v) (ap (λ (x : Told T). next x (λ w. done (how w))) told); stands = rw e es; kept = λ h k. rw (e, events v) (subst (λ (zs : List ℤ). Kept t (event zs ∷ h) s') ec (law h k)) }, rw e ec)
-  called (done v) (Err f) e ends events told es ec law = cc told
-  called (refused n l p) (Ok u) e ends events told es ec law = cc told
-  called (refused n l p) (Err f) e ends events told es ec law =
-      (record { told = rw e (ap (λ (x : Told T). next x (λ w. done (how w))) told); stands = rw e es; kept = λ h k. rw e (law h k) }, rw e ec)
+  called (done v) (Ok u) e ends events told es ec promise invariant =
+      (record { told = rw (e, ends v) (ap (λ (x : Told T). next x (λ w. done (how w))) told); stands = rw e es; kept = λ h k. rw (e, events v) (subst (λ (zs : List ℤ). Kept t (event zs ∷ h) s') ec (record { promise = promise h k; invariant = invariant h k })) }, rw e ec)
+  called (done v) (Err f) e ends events told es ec promise invariant = cc told
+  called (refused n l p) (Ok u) e ends events told es ec promise invariant = cc told
+  called (refused n l p) (Err f) e ends events told es ec promise invariant =
+      (record { told = rw e (ap (λ (x : Told T). next x (λ w. done (how w))) told); stands = rw e es; kept = λ h k. rw e (record { promise = promise h k; invariant = invariant h k }) }, rw e ec)
 
 -- a call whose answer the order maps
 pub mapped : {T : Type 0} {Q : T → Done → Type 0} (how : T → Done) (r : Result T Fault) (m : Result Done Fault) → MatchResult r (λ v. IsOkAnd m (Q v)) (λ f. m ≡ Err f)

@@ -6,7 +6,7 @@ use Rattle.refusal.specs.declared.Layer.TheVariants as layer
 use Rattle.ledger.specs.declared.line.Line.{Line}
 use Rattle.ledger.specs.Files.{part}
 use Rattle.ledger.specs.Standings.{Standing, standing, no_heads, opened, open_rule}
-use Rattle.ledger.specs.Kept.{Terms, Kept}
+use Rattle.ledger.specs.Kept.{Terms, Promise, Invariant}
 use Rattle.runs.specs.declared.done.Done.{Done}
 use Rattle.runs.specs.declared.done.Done.TheVariants as ended
 use Rattle.runs.specs.Orders.{Deed, book, World, run_through, cells_after, answer_of}
@@ -30,8 +30,10 @@ before t w deeds i = (run_through t w (take i deeds)).stands
 pub record Ran (t : Terms) (w : World) (deeds : List Deed) (outcomes : List (Result Done Fault)) (memory cells : List ℤ) (s : Standing) : Type 0 where
   -- ledger and file are those that the orders lead to
   pub stands : s ≡ (run_through t w deeds).stands
-  -- and they keep the accounts of all accepted orders
-  pub kept : Kept t (run_through t w deeds).history s
+  -- the promise holds of all accepted orders
+  pub promise : Promise t (run_through t w deeds).history s
+  -- and the scaffolding, so that a call after the run keeps it too
+  pub invariant : Invariant t (run_through t w deeds).history s
   -- each order has the answer of its call where ledger and file then stood
   pub outcome : (i : ℕ) → i < length deeds → answer (slice_index_or outcomes i (Ok ended.Booked)) ≡ answer_of t (before t w deeds i) (slice_index_or deeds i no_deed)
   -- and its statement has the cells of that call

@@ -20,10 +20,8 @@ fn book_costs<R: Rule>(ledger: &mut Ledger<R>, costs: &Costs) -> Result<Done, Fa
     ensures same { (ledger.new.rule ≡ ledger.old.rule) × (ledger.new.sheet ≡ ledger.old.sheet) }
 {
     let voucher = cost_voucher(costs.control, costs.amounts)?;
-    ledger
-        .book(voucher)
-        .map_err(|unbooked| unbooked.fault)
-        .map(|()| Done::Booked)
+    ledger.book(voucher)?;
+    Ok(Done::Booked)
 }
 
 /// Carries out one order: its cells go to the front of the memory for a statement.

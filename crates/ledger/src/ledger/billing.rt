@@ -1,10 +1,10 @@
 //! Billing the open month.
-ghost use Rattle.std.specs.Prelude.{◌≡◌, ◌∷◌, MatchResult};
+ghost use Rattle.std.specs.Prelude.{◌≡◌};
 ghost use Rattle.refusal.specs.Answers.{answer, done, next, after};
 ghost use Rattle.ledger.specs.Readings.{reading_of};
-ghost use Rattle.ledger.specs.Histories.{History, billed};
-ghost use Rattle.ledger.specs.Kept.{Kept};
-ghost use Rattle.ledger.specs.Ledgers.{bill_of, standing_of, terms_of};
+ghost use Rattle.ledger.specs.Histories.{billed, history_with};
+ghost use Rattle.ledger.specs.Kept.{Promise, Invariant};
+ghost use Rattle.ledger.specs.Ledgers.{bill_of, standing_of, HoldsAfter};
 
 use crate::billing::charge_book;
 use crate::ledger::Ledger;
@@ -28,7 +28,8 @@ impl<R: Rule> Ledger<R> {
         ensures standing { standing_of self.new file.new ≡ after (bill_of self.old file.old (reading_of B.Book book.now) statement.old) (λ left. left.standing) (standing_of self.old file.old) }
         ensures cells { statement.new ≡ after (bill_of self.old file.old (reading_of B.Book book.now) statement.old) (λ left. left.cells) statement.old }
         ensures same { (self.new.rule ≡ self.old.rule) × (self.new.sheet ≡ self.old.sheet) }
-        ensures law { (h : History) → Kept (terms_of self.old) h (standing_of self.old file.old) → MatchResult result (λ _. Kept (terms_of self.old) (billed (reading_of B.Book book.now) statement.new ∷ h) (standing_of self.new file.new)) (λ _. Kept (terms_of self.old) h (standing_of self.new file.new)) }
+        ensures promise { HoldsAfter Promise self.old file.old self.new file.new (history_with result (billed (reading_of B.Book book.now) statement.new)) }
+        ensures invariant { HoldsAfter Invariant self.old file.old self.new file.new (history_with result (billed (reading_of B.Book book.now) statement.new)) }
     {
         let costs = self.sheet.costs(&self.heads);
         let charges = charge_book(&self.rule, &self.accounts, costs, book, file, statement)?;

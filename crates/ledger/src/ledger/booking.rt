@@ -1,13 +1,13 @@
 //! Booking a voucher.
-ghost use Rattle.std.specs.Prelude.{◌≡◌, List, ◌∷◌, IfErr, MatchResult};
+ghost use Rattle.std.specs.Prelude.{◌≡◌, List, IfErr};
 ghost use Rattle.refusal.specs.Answers.{bare, after};
 ghost use Rattle.tariff.specs.Heads.{book_rule};
 ghost use Rattle.voucher.specs.declared.voucher.State.TheVariants.{Balanced};
 ghost use Rattle.ledger.specs.declared.line.Line.{Line};
 ghost use Rattle.ledger.specs.Booking.{booking_told};
-ghost use Rattle.ledger.specs.Histories.{History, booked};
-ghost use Rattle.ledger.specs.Kept.{Kept};
-ghost use Rattle.ledger.specs.Ledgers.{standing_of, terms_of};
+ghost use Rattle.ledger.specs.Histories.{booked, history_with};
+ghost use Rattle.ledger.specs.Kept.{Promise, Invariant};
+ghost use Rattle.ledger.specs.Ledgers.{HoldsAfter};
 
 use crate::ledger::Ledger;
 use crate::unbooked::Unbooked;
@@ -23,7 +23,8 @@ impl<R: Rule> Ledger<R> {
         ensures amounts { IfErr result (λ unbooked. unbooked.amounts ≡ voucher.amounts) }
         ensures heads { self.new.heads.amounts ≡ after (book_rule self.old.heads.amounts voucher.amounts) (λ sums. sums) self.old.heads.amounts }
         ensures same { (self.new.rule ≡ self.old.rule) × (self.new.sheet ≡ self.old.sheet) × (self.new.accounts ≡ self.old.accounts) }
-        ensures law { (h : History) (file : List Line) → Kept (terms_of self.old) h (standing_of self.old file) → MatchResult result (λ _. Kept (terms_of self.old) (booked voucher.amounts ∷ h) (standing_of self.new file)) (λ _. Kept (terms_of self.old) h (standing_of self.new file)) }
+        ensures promise { (file : List Line) → HoldsAfter Promise self.old file self.new file (history_with result (booked voucher.amounts)) }
+        ensures invariant { (file : List Line) → HoldsAfter Invariant self.old file self.new file (history_with result (booked voucher.amounts)) }
     {
         let amounts = voucher.spend();
         self.heads

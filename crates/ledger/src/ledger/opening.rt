@@ -4,7 +4,7 @@ ghost use Rattle.refusal.specs.Answers.{answer, bare};
 ghost use Rattle.tariff.specs.Sheets.{Even};
 ghost use Rattle.ledger.specs.declared.line.Line.{Line};
 ghost use Rattle.ledger.specs.Standings.{opened, open_rule, no_heads};
-ghost use Rattle.ledger.specs.Kept.{Kept};
+ghost use Rattle.ledger.specs.Kept.{Promise, Invariant};
 ghost use Rattle.ledger.specs.Ledgers.{standing_of, terms_of};
 
 use crate::accounts::Accounts;
@@ -33,7 +33,8 @@ impl<R: Rule + Drop> Ledger<R> {
     pub fn open(&mut self, rule: R, sheet: Sheet, members: u32, first: u32) -> Result<(), Fault>
         ensures told { answer result ≡ bare (open_rule members first) }
         ensures after { MatchResult result (λ _. (self.new.rule ≡ rule) × (self.new.sheet ≡ sheet) × (self.new.heads.amounts ≡ no_heads) × (self.new.accounts ≡ opened members first)) (λ _. self.new ≡ self.old) }
-        ensures law { OnOk result ((file : List Line) → Kept (terms_of self.new) [] (standing_of self.new file)) }
+        ensures promise { OnOk result ((file : List Line) → Promise (terms_of self.new) [] (standing_of self.new file)) }
+        ensures invariant { OnOk result ((file : List Line) → Invariant (terms_of self.new) [] (standing_of self.new file)) }
     {
         if !(1..=200).contains(&members) {
             return Err(Layer::Ledger.refuses(Refusal::Count));

@@ -1,12 +1,12 @@
 //! Resettling a month on file.
-ghost use Rattle.std.specs.Prelude.{◌≡◌, ◌-◌, ◌∷◌, if◌then◌else◌, Some, None, MatchResult};
+ghost use Rattle.std.specs.Prelude.{◌≡◌, ◌-◌, if◌then◌else◌, Some, None};
 ghost use Rattle.std.specs.Option.{option_map};
 ghost use Rattle.refusal.specs.Answers.{answer, bare, after};
 ghost use Rattle.ledger.specs.Readings.{reading_of};
 ghost use Rattle.ledger.specs.Resettling.{reconciled};
-ghost use Rattle.ledger.specs.Histories.{History, resettled};
-ghost use Rattle.ledger.specs.Kept.{Kept};
-ghost use Rattle.ledger.specs.Ledgers.{resettling_of, standing_of, terms_of};
+ghost use Rattle.ledger.specs.Histories.{resettled, history_with};
+ghost use Rattle.ledger.specs.Kept.{Promise, Invariant};
+ghost use Rattle.ledger.specs.Ledgers.{resettling_of, standing_of, HoldsAfter};
 
 use crate::ledger::Ledger;
 use crate::line::Line;
@@ -42,7 +42,8 @@ impl<R: Rule> Ledger<R> {
         ensures standing { standing_of self.new file.new ≡ after (resettling_of self.old file.old (reading_of B.Book book.now) component statement.old) (λ left. left.standing) (standing_of self.old file.old) }
         ensures cells { statement.new ≡ after (resettling_of self.old file.old (reading_of B.Book book.now) component statement.old) (λ left. left.cells) statement.old }
         ensures same { (self.new.rule ≡ self.old.rule) × (self.new.sheet ≡ self.old.sheet) }
-        ensures law { (h : History) → Kept (terms_of self.old) h (standing_of self.old file.old) → MatchResult result (λ _. Kept (terms_of self.old) (resettled (component - 1) (reading_of B.Book book.now) statement.new ∷ h) (standing_of self.new file.new)) (λ _. Kept (terms_of self.old) h (standing_of self.new file.new)) }
+        ensures promise { HoldsAfter Promise self.old file.old self.new file.new (history_with result (resettled (component - 1) (reading_of B.Book book.now) statement.new)) }
+        ensures invariant { HoldsAfter Invariant self.old file.old self.new file.new (history_with result (resettled (component - 1) (reading_of B.Book book.now) statement.new)) }
     {
         let Some(component) = reconciled(component) else {
             return Err(Layer::Ledger.refuses(Refusal::Kind));

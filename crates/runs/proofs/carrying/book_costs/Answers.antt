@@ -1,11 +1,9 @@
-use Rattle.std.proofs.Common.{ℤ, refl, ap, ◌∙◌, w64, rules}
+use Rattle.std.proofs.Common.{ℤ, Ok, Err, refl, ap, ◌∙◌, w64, rules}
 use Rattle.std.proofs.lemmas.Int.{to_z-of_z}
-use Rattle.tariff.specs.Heads.{book_rule}
+use Rattle.std.proofs.lemmas.Result.{err_from_is_err_and}
 use Rattle.month_voucher.specs.Costs.{cost_rule}
 use Rattle.ledger.specs.Ledgers.{standing_of, terms_of}
-use Rattle.runs.specs.declared.done.Done.TheVariants as ended
-use Rattle.runs.proofs.Booked.{vouched, booking_answers}
-use Rattle.runs.proofs.Called.{mapped}
+use Rattle.runs.proofs.Booked.{vouched}
 use Rattle.runs.proofs.carrying.book_costs.Goals as goal
 
 pub returns-clause-carried : goal.returns-clause-carried
@@ -13,7 +11,14 @@ returns-clause-carried g c =
     let l = c.args.ledger.now in
     let costs = c.args.costs.now in
     let e = c.in_ok-voucher.ensures.told ∙ ap (λ (x : ℤ). cost_rule x costs.amounts) (to_z-of_z w64 costs.control (search rules)) in
-    let r = c.book.result in
-    let p = c.book.ensures in
-    λ file. rw (mapped (λ _. ended.Booked) c.map_err.result c.map.result c.map.ensures.cases (λ v a q. search rules), booking_answers r c.map_err.result c.map_err.ensures.cases (λ u f q. search rules))
-    (vouched (terms_of l) (standing_of l file) costs.control costs.amounts c.in_ok-voucher.voucher.amounts (standing_of c.book.new.self file) (book_rule l.heads.amounts c.in_ok-voucher.voucher.amounts) r (rw (← e) refl) p.told (rw (p.heads, p.same.2) refl) (λ h k. p.law h file k))
+    let p = c.in_ok-book.ensures in
+    λ file. vouched (terms_of l) (standing_of l file) costs.control costs.amounts c.in_ok-voucher.voucher.amounts (standing_of c.book.new.self file) (Ok c.in_ok-book.field-0) e p.told (rw (p.heads, p.same.2) refl) (p.promise file) (p.invariant file)
+
+pub returns-in_err-book-clause-carried : goal.returns-in_err-book-clause-carried
+returns-in_err-book-clause-carried g c =
+    let l = c.args.ledger.now in
+    let costs = c.args.costs.now in
+    let e = c.in_ok-voucher.ensures.told ∙ ap (λ (x : ℤ). cost_rule x costs.amounts) (to_z-of_z w64 costs.control (search rules)) in
+    let p = c.in_err-book.ensures in
+    let f = err_from_is_err_and c.from_residual-in_err-book.result c.from_residual-in_err-book.ensures.1 in
+    λ file. rw (f.1, f.2) (vouched (terms_of l) (standing_of l file) costs.control costs.amounts c.in_ok-voucher.voucher.amounts (standing_of c.book.new.self file) (Err c.in_err-book.field-0.0) e p.told (rw (p.heads, p.same.2) refl) (p.promise file) (p.invariant file))

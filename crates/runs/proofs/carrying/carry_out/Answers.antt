@@ -22,7 +22,7 @@ returns-in-Bill-clause-carried g c =
     let r = c.bill.result in
     let leaves : Left → Carried = λ left. record { left = left; event = billed b left.cells } in
     let q = called t (bill b) s (standing_of c.bill.new.self c.bill.new.file) c.args.cells.now c.bill.new.statement leaves (billed b) (λ (left : Left). left.components) ended.Billed (bill_rule t.shares t.cut s b (length c.args.cells.now)) r
-    (ap (λ (n : ℕ). next (bill_rule t.shares t.cut s b n) (λ left. done (leaves left))) (sym c.requires)) (λ left. refl) (λ left. refl) p.told p.standing p.cells p.law in
+    (ap (λ (n : ℕ). next (bill_rule t.shares t.cut s b n) (λ left. done (leaves left))) (sym c.requires)) (λ left. refl) (λ left. refl) p.told p.standing p.cells p.promise p.invariant in
     rw (c.in-Bill.is, mapped ended.Billed r c.map.result c.map.ensures.cases (λ v a q. q)) q.0
 
 pub returns-in-Resettle : goal.returns-in-Resettle
@@ -40,7 +40,7 @@ returns-in-Resettle g c =
     let rule = resettle_rule t.shares s b component (length cells) in
     let leaves : Left → Carried = λ left. record { left = left; event = resettled (component - 1) b left.cells } in
     let q = called t (resettle component b) s (standing_of c.resettle.new.self c.resettle.new.file) cells c.resettle.new.statement leaves (resettled (component - 1) b) (λ (left : Left). tt) (λ _. ended.Resettled) rule r
-    (ap (λ (n : ℕ). next (resettle_rule t.shares s b component n) (λ left. done (leaves left))) {x = t.members} {y = length cells} (omega (arith, c.resettle.auto.statement, c.requires, c.members-members.ensures))) (λ left. refl) (λ left. refl) (p.told ∙ bare_is rule) p.standing p.cells p.law in
+    (ap (λ (n : ℕ). next (resettle_rule t.shares s b component n) (λ left. done (leaves left))) {x = t.members} {y = length cells} (omega (arith, c.resettle.auto.statement, c.requires, c.members-members.ensures))) (λ left. refl) (λ left. refl) (p.told ∙ bare_is rule) p.standing p.cells p.promise p.invariant in
     rw (c.in-Resettle.is, mapped (λ _. ended.Resettled) r c.map-in-Resettle.result c.map-in-Resettle.ensures.cases (λ v a q. search rules)) (record {
       carried = q.0;
       cells = front_written (carried t s (resettle component b)) c.args.cells.now c.resettle.new.statement k (omega (arith, c.resettle.auto.statement)) q.1;

@@ -1,4 +1,4 @@
-use Rattle.std.proofs.Common.{◌≡◌, ℕ, ◌<◌, ◌≤◌, List, length, get_or, nat_abs, Ok, sym, ap, ◌∙◌, subst, arith, rules}
+use Rattle.std.proofs.Common.{◌≡◌, ℕ, ◌<◌, ◌≤◌, List, ◌∷◌, length, get_or, nat_abs, Ok, sym, refl, ap, ◌∙◌, subst, arith, rules}
 use Rattle.refusal.specs.Answers.{Told, done, next, after}
 use Rattle.cents.specs.Cutting.{sum_z}
 use Rattle.tariff.specs.Heads.{sums}
@@ -6,6 +6,8 @@ use Rattle.charges_text.specs.declared.charges.ComponentCharge.{ComponentCharge}
 use Rattle.ledger.specs.Readings.{reading_of, rows_read}
 use Rattle.ledger.specs.Standings.{standing, balances}
 use Rattle.ledger.specs.Billing.{Left}
+use Rattle.ledger.specs.Histories.{History, billed}
+use Rattle.ledger.specs.Kept.{Kept}
 use Rattle.ledger.proofs.Lawful.{LawfulRule}
 use Rattle.ledger.specs.Ledgers.{cut_by, standing_of, terms_of}
 use Rattle.ledger.proofs.Billed.{bill_done, bill_charges, bill_cells, bill_standing}
@@ -37,8 +39,8 @@ invariant_of-self-2 g c =
     }
     )
 
-pub returns-clause-law : goal.returns-clause-law
-returns-clause-law g c =
+pub returns : goal.returns
+returns g c =
     let self = c.args.self.now in
     let book = c.args.book.now in
     let b = reading_of g.B.Book book in
@@ -58,7 +60,15 @@ returns-clause-law g c =
     let told = ap done ec ∙ ap (λ (t : Told Left). next t (λ left. done left.components)) done' in
     let stands = es ∙ ap (λ (t : Told Left). after t (λ left. left.standing) s) done' in
     let cells = ew ∙ ap (λ (t : Told Left). after t (λ left. left.cells) memory) done' in
-    let rule : LawfulRule (terms_of self) = record { stepped = g.met.R.Rule.stepped; long = g.met.R.Rule.long self.rule; idle = g.met.R.Rule.idle self.rule; fair = g.met.R.Rule.fair self.rule } in
+    let rule : LawfulRule (terms_of self) = record { stepped = g.met.R.Rule.stepped; long = g.met.R.Rule.long self.rule; fair = g.met.R.Rule.fair self.rule; unused = g.met.R.Rule.unused self.rule } in
     let whole = ap sum_z (sym value) ∙ c.costs-costs.ensures.whole in
     let thirteen : length (cut self.heads.amounts) ≡ 13 = ap length (sym value) ∙ search rules in
-    λ h k. bill_keeps (terms_of self) rule h s (standing c.zero-self.result.amounts c.close.new.self c.charge_book.new.file) b memory c.charge_book.new.statement (Ok charges) (g.met.B.Book.peopled book).0 (g.met.B.Book.peopled book).1 whole thirteen (search rules) self.slots told stands cells k
+    let kept : (h : History) → Kept (terms_of self) h s → Kept (terms_of self) (billed b c.charge_book.new.statement ∷ h) (standing c.zero-self.result.amounts c.close.new.self c.charge_book.new.file) = λ h k. bill_keeps (terms_of self) rule h s (standing c.zero-self.result.amounts c.close.new.self c.charge_book.new.file) b memory c.charge_book.new.statement (Ok charges) (g.met.B.Book.peopled book).0 (g.met.B.Book.peopled book).1 whole thirteen (search rules) self.slots told stands cells k in
+    record {
+      told = told;
+      standing = stands;
+      cells = cells;
+      same = (refl, refl);
+      promise = λ h k. (kept h k).promise;
+      invariant = λ h k. (kept h k).invariant;
+    }

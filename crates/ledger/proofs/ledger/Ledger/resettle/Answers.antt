@@ -1,4 +1,4 @@
-use Rattle.std.proofs.Common.{◌≡◌, ℕ, ◌+◌, ◌-◌, ◌≤◌, true, List, length, ℤ, nat_abs, Ok, sym, ap, ◌∙◌, subst, w64, rules}
+use Rattle.std.proofs.Common.{◌≡◌, ℕ, ◌+◌, ◌-◌, ◌≤◌, true, List, ◌∷◌, length, ℤ, nat_abs, Ok, sym, refl, ap, ◌∙◌, subst, w64, rules}
 use Rattle.std.proofs.lemmas.Int.{to_z-of_z}
 use Rattle.refusal.specs.Answers.{Told, done, bare, after}
 use Rattle.cents.proofs.Options.{cond_some}
@@ -9,6 +9,8 @@ use Rattle.ledger.specs.Readings.{reading_of, units_read}
 use Rattle.ledger.specs.Standings.{standing, account_at, is_on_file}
 use Rattle.ledger.specs.Billing.{Left, memory_rule}
 use Rattle.ledger.specs.Resettling.{reconciled, lines_at, shares_again, change_rule, settled}
+use Rattle.ledger.specs.Histories.{History, resettled}
+use Rattle.ledger.specs.Kept.{Kept}
 use Rattle.ledger.proofs.Resettled.{change_passed, settled_all, reconciled_place, resettle_is}
 use Rattle.ledger.proofs.ResettlementKeeps.{resettle_keeps}
 use Rattle.ledger.proofs.Lawful.{LawfulRule}
@@ -35,8 +37,8 @@ invariant_of-self-2 g c =
     }
     )
 
-pub returns-clause-law : goal.returns-clause-law
-returns-clause-law g c =
+pub returns : goal.returns
+returns g c =
     let self = c.args.self.now in
     let a = self.accounts in
     let file = c.args.file.now in
@@ -52,7 +54,7 @@ returns-clause-law g c =
     let p = reconciled_place component r in
     let m : done tt ≡ memory_rule a.members (length file) (length memory) a.members b.count = c.in_ok-check_memory.ensures in
     let o : is_on_file a b.month ≡ true = sym (c.if-not-is_on_file.ensures ∙ ap (is_on_file a) c.month.ensures) in
-    let rule : LawfulRule (terms_of self) = record { stepped = g.met.R.Rule.stepped; long = g.met.R.Rule.long self.rule; idle = g.met.R.Rule.idle self.rule; fair = g.met.R.Rule.fair self.rule } in
+    let rule : LawfulRule (terms_of self) = record { stepped = g.met.R.Rule.stepped; long = g.met.R.Rule.long self.rule; fair = g.met.R.Rule.fair self.rule; unused = g.met.R.Rule.unused self.rule } in
     let change : ℕ → Told ℤ = λ n. change_rule n (units_read b i) (shares_again sh a b i) (account_at a i).balance (lines_at a file b i) in
     let left = c.in_ok-left.left in
     let z = to_z-of_z w64 left (search rules) in
@@ -64,4 +66,12 @@ returns-clause-law g c =
     let told = ap bare d in
     let stands = ap (λ (x : Accounts). standing self.heads.amounts x c.resettle_lines.new.file) e ∙ ap (λ (f : List Line). standing self.heads.amounts (settled i left a) f) q.0 ∙ ap (λ (t : Told Left). after t (λ left. left.standing) s) d in
     let cells = q.1 ∙ ap (λ (t : Told Left). after t (λ left. left.cells) memory) d in
-    λ h k. resettle_keeps (terms_of self) rule h s new b component memory c.resettle_lines.new.statement (Ok tt) (search rules) told stands cells k
+    let kept : (h : History) → Kept (terms_of self) h s → Kept (terms_of self) (resettled i b c.resettle_lines.new.statement ∷ h) new = λ h k. resettle_keeps (terms_of self) rule h s new b component memory c.resettle_lines.new.statement (Ok tt) (search rules) told stands cells k in
+    record {
+      told = told;
+      standing = stands;
+      cells = cells;
+      same = (refl, refl);
+      promise = λ h k. (kept h k).promise;
+      invariant = λ h k. (kept h k).invariant;
+    }
