@@ -1,7 +1,6 @@
 -- A month's steps on a new ledger, joined.
 use Rattle.std.proofs.Common.{◌≡◌, ℕ, ◌-◌, ◌*◌, ◌≤◌, cond, eqb, List, [], ◌∷◌, ◌++◌, length, get_or, take, replicate, ℤ, pos, ◌+ℤ◌, sym, refl, ap, ◌∙◌, arith}
 use borrow.Author.Differences.{ints}
-use Rattle.std.proofs.Math.Path.{fun_ext}
 use Rattle.std.proofs.lemmas.Bool.{cond-true, eq-eqb}
 use Rattle.std.proofs.lemmas.List.{length-append, take-replicate}
 use Rattle.refusal.specs.Answers.{Told, done, refused, next, after}
@@ -18,6 +17,7 @@ use Rattle.charges_text.specs.declared.charges.ComponentCharge.{ComponentCharge}
 use Rattle.charges_text.specs.declared.charges.MemberCharge.{MemberCharge}
 use Rattle.statement.specs.Checks.{charge_rule}
 use Rattle.statement.specs.Charges.{Shares, components, cells}
+use Rattle.statement.proofs.Statements.{cells_length}
 use Rattle.sharing.specs.declared.rule.Rule.{Ghosts}
 use Rattle.ledger.specs.declared.line.Line.{Line}
 use Rattle.ledger.specs.declared.ledger.Ledger.{Ledger}
@@ -28,9 +28,9 @@ use Rattle.ledger.specs.Readings.{Reading, rows_read}
 use Rattle.ledger.specs.Standings.{Standing, standing, opened, open_rule, balances}
 use Rattle.ledger.specs.Billing.{Cut, Left, ranges_rule, bill_check, bill_rule, bill_leaves, pools_for}
 use Rattle.ledger.proofs.Passed.{ranges_left, rows_length}
-use Rattle.month_bill.specs.Members.{month_units, member_rows}
-use Rattle.month_bill.proofs.Listed.{rows_take}
-use Rattle.month_bill.specs.Bills.{month_sheet, month_heads, charge_members, bill_by}
+use Rattle.month_bill.specs.Members.{month_units, member_rows, place_rows}
+use Rattle.month_bill.proofs.Listed.{places_told}
+use Rattle.month_bill.specs.Bills.{month_sheet, month_heads, charge_places, bill_by}
 
 abbrev Charges : Type 0
 Charges = List ComponentCharge × List MemberCharge
@@ -63,72 +63,70 @@ sums_none (z ∷ zs) =
 new_pools : (zs : List ℤ) (n first : ℕ) → length zs ≡ 13 → sums zs (balances (opened n first)) ≡ zs
 new_pools zs n first e = ap (λ (k : ℕ). sums zs (replicate k (pos 0))) (sym e) ∙ sums_none zs
 
--- a bill by a new ledger, with a file, a statement and a book that fit
-module _ (shares : Shares) (cut : Cut) (heads : List ℤ) (a : Accounts) (file : List Line) (b : Reading) (width first : ℕ) (members : List Member)
-    (new : a ≡ opened b.count first) (thirteen : length (cut heads) ≡ 13) (lines : length file ≡ 78 * b.count) (wide : width ≡ 13 * b.count) (month : b.month ≡ first) (low : 1 ≤ b.count) (high : b.count ≤ 200) where
+-- a bill of a month's places by a new ledger, with a file, a statement and a book that fit
+module _ (shares : Shares) (long : (p : ℤ) (us : List ℕ) → length (shares p us) ≡ length us) (cut : Cut) (heads : List ℤ) (a : Accounts) (file : List Line) (b : Reading) (width : ℕ) (m : Month)
+    (new : a ≡ opened b.count m.month) (thirteen : length (cut heads) ≡ 13) (lines : length file ≡ 78 * b.count) (wide : width ≡ 13 * b.count) (month : b.month ≡ m.month) (count : b.count ≡ m.count)
+    (low : 1 ≤ b.count) (high : b.count ≤ 200) where
   abbrev s : Standing
   s = standing heads a file
 
-  abbrev charged : Left → Told Charges
-  charged left = done (left.components, member_rows left.cells 0 members)
+  abbrev paid : Left → Told Charges
+  paid left = done (left.components, member_rows left.cells 0 m.members)
 
   pools : pools_for cut s ≡ cut heads
-  pools = ap (λ (x : Accounts). sums (cut heads) (balances x)) new ∙ new_pools (cut heads) b.count first thirteen
+  pools = ap (λ (x : Accounts). sums (cut heads) (balances x)) new ∙ new_pools (cut heads) b.count m.month thirteen
 
   -- it tests the ranges
   checked : bill_check a (pools_for cut s) b (length file) width ≡ charge_rule (cut heads) (rows_read b) (13 * length (rows_read b))
   checked =
       let l = rows_length b.held 0 b.count in
       rw (new, wide)
-      (ap (λ (t : Told (Unit {0})). next t (λ _. cond (eqb b.month first) (ranges_rule (sums (cut heads) (balances (opened b.count first))) (rows_read b)) (refused 5 layer.Ledger 0)))
+      (ap (λ (t : Told (Unit {0})). next t (λ _. cond (eqb b.month m.month) (ranges_rule (sums (cut heads) (balances (opened b.count m.month))) (rows_read b)) (refused 5 layer.Ledger 0)))
       (cond-true (eqb (length file) (78 * b.count)) _ _ (eq-eqb (length file) (78 * b.count) lines) ∙ cond-true (eqb (13 * b.count) (13 * b.count)) _ _ (eq-eqb (13 * b.count) (13 * b.count) refl) ∙ cond-true (eqb b.count b.count) _ _ (eq-eqb b.count b.count refl))
-      ∙ cond-true (eqb b.month first) _ _ (eq-eqb b.month first month)
-      ∙ ap (λ (ps : List ℤ). ranges_rule ps (rows_read b)) (new_pools (cut heads) b.count first thirteen)
+      ∙ cond-true (eqb b.month m.month) _ _ (eq-eqb b.month m.month month)
+      ∙ ap (λ (ps : List ℤ). ranges_rule ps (rows_read b)) (new_pools (cut heads) b.count m.month thirteen)
       ∙ sym (ranges_left (cut heads) (rows_read b) (13 * length (rows_read b)) (charge_rule (cut heads) (rows_read b) (13 * length (rows_read b))) refl (omega (arith, l)) (omega (arith, l)) refl))
 
+  -- its statement has cells for the month's members
+  places : member_rows (cells shares (cut heads) (rows_read b) 13) 0 m.members ≡ place_rows (cells shares (cut heads) (rows_read b) 13) m
+  places =
+      places_told (cells shares (cut heads) (rows_read b) 13) m
+      (cells_length shares long (cut heads) (rows_read b) 13 ∙ ap (λ (n : ℕ). 13 * n) (rows_length b.held 0 b.count ∙ count))
+
   -- and charges the costs
-  new_bill : next (bill_rule shares cut s b width) charged ≡ charge_members shares (cut heads) (rows_read b) members
+  new_bill : next (bill_rule shares cut s b width) paid ≡ charge_places shares (cut heads) (rows_read b) m
   new_bill =
-      then_done (bill_check a (pools_for cut s) b (length file) width) (bill_leaves shares cut s b) charged
-      ∙ ap (λ (t : Told (Unit {0})). next t (λ _. charged (bill_leaves shares cut s b))) checked
-      ∙ ap (λ (ps : List ℤ). next (charge_rule (cut heads) (rows_read b) (13 * length (rows_read b))) (λ _. done (components shares ps (rows_read b) 13, member_rows (cells shares ps (rows_read b) 13) 0 members))) pools
+      then_done (bill_check a (pools_for cut s) b (length file) width) (bill_leaves shares cut s b) paid
+      ∙ ap (λ (t : Told (Unit {0})). next t (λ _. paid (bill_leaves shares cut s b))) checked
+      ∙ ap (λ (ps : List ℤ). next (charge_rule (cut heads) (rows_read b) (13 * length (rows_read b))) (λ _. done (components shares ps (rows_read b) 13, member_rows (cells shares ps (rows_read b) 13) 0 m.members))) pools
+      ∙ ap (λ (rows : List MemberCharge). next (charge_rule (cut heads) (rows_read b) (13 * length (rows_read b))) (λ _. done (components shares (cut heads) (rows_read b) 13, rows))) places
 
 -- the same, where the sheet, the units of a month's book and its heads were accepted before
-module _ (shares : Shares) (m : Month) (d g s : List ℕ) (heads : List ℤ) (a : Accounts) (file : List Line) (b : Reading) (width members : ℕ)
+module _ (shares : Shares) (long : (p : ℤ) (us : List ℕ) → length (shares p us) ≡ length us) (m : Month) (d g s : List ℕ) (heads : List ℤ) (a : Accounts) (file : List Line) (b : Reading) (width members : ℕ)
     (sheet : done (d, g, s) ≡ month_sheet m) (units : done (rows_read b) ≡ month_units m) (booked : done heads ≡ next (open_rule members m.month) (λ _. month_heads m)) (new : a ≡ opened members m.month)
-    (count : members ≡ b.count) (lines : length file ≡ 78 * b.count) (wide : width ≡ 13 * b.count) (month : b.month ≡ m.month) (low : 1 ≤ b.count) (high : b.count ≤ 200) where
-  abbrev answers : Told Left
-  answers = bill_rule shares (costs d g s) (standing heads a file) b width
-
+    (asked : members ≡ b.count) (lines : length file ≡ 78 * b.count) (wide : width ≡ 13 * b.count) (month : b.month ≡ m.month) (count : b.count ≡ m.count) (low : 1 ≤ b.count) (high : b.count ≤ 200) where
   opened_for : a ≡ opened b.count m.month
-  opened_for = new ∙ ap (λ (n : ℕ). opened n m.month) count
+  opened_for = new ∙ ap (λ (n : ℕ). opened n m.month) asked
 
-  chained : (x : Told Charges) → x ≡ charge_members shares (costs d g s heads) (rows_read b) (take m.count m.members) → x ≡ bill_by shares m
-  chained x e =
-      let paying = take m.count m.members in
-      e
-      ∙ goes (λ heads. charge_members shares (costs d g s heads) (rows_read b) paying) (last (open_rule members m.month) booked)
-      ∙ goes (λ rows. next (month_heads m) (λ heads. charge_members shares (costs d g s heads) rows paying)) units
-      ∙ goes (λ sheet. next (month_units m) (λ rows. next (month_heads m) (λ heads. charge_members shares (costs sheet.0 sheet.1 sheet.2 heads) rows paying))) sheet
+  chained : charge_places shares (costs d g s heads) (rows_read b) m ≡ bill_by shares m
+  chained =
+      goes (λ heads. charge_places shares (costs d g s heads) (rows_read b) m) (last (open_rule members m.month) booked)
+      ∙ goes (λ rows. next (month_heads m) (λ heads. charge_places shares (costs d g s heads) rows m)) units
+      ∙ goes (λ sheet. next (month_units m) (λ rows. next (month_heads m) (λ heads. charge_places shares (costs sheet.0 sheet.1 sheet.2 heads) rows m))) sheet
     where
       last : {T : Type 0} (t : Told T) → done heads ≡ next t (λ _. month_heads m) → done heads ≡ month_heads m
       last (done _) e = e
       last (refused n l p) e = absurd (done_refused heads n l p e)
 
   -- what a bill on that ledger charges is the month's bill
-  pub month_billed : (x : Told Charges) → b.count ≡ m.count → x ≡ next answers (λ left. done (left.components, take b.count (member_rows left.cells 0 m.members))) → x ≡ bill_by shares m
-  month_billed x same e =
-      let rows : (left : Left) → take b.count (member_rows left.cells 0 m.members) ≡ member_rows left.cells 0 (take m.count m.members) =
-      λ left. rows_take left.cells 0 b.count m.members ∙ ap (λ (n : ℕ). member_rows left.cells 0 (take n m.members)) same in
-      chained x
-      (e ∙ ap (λ (k : Left → Told Charges). next answers k) (fun_ext (λ left. ap (λ (paid : List MemberCharge). done (left.components, paid)) (rows left)))
-      ∙ new_bill shares (costs d g s) heads a file b width m.month (take m.count m.members) opened_for (costs_long d g s heads) lines wide month low high)
+  pub month_billed : next (bill_rule shares (costs d g s) (standing heads a file) b width) (λ left. done (left.components, member_rows left.cells 0 m.members)) ≡ bill_by shares m
+  month_billed = new_bill shares long (costs d g s) heads a file b width m opened_for (costs_long d g s heads) lines wide month count low high ∙ chained
 
 -- a bill that was accepted, and one that was refused
-pub left_charged : (x y : Told Left) (n : ℕ) (charges : List ComponentCharge) (memory written : List ℤ) (members : List Member) → x ≡ y → done charges ≡ next x (λ left. done left.components)
-    → written ≡ after x (λ left. left.cells) memory → ◌≡◌ {A = Told Charges} (done (charges, take n (member_rows written 0 members))) (next y (λ left. done (left.components, take n (member_rows left.cells 0 members))))
-left_charged (done left) y n charges memory written members same e w = let d : charges ≡ left.components = cc in rw (← same, d, w) refl
-left_charged (refused k l p) y n charges memory written members same e w = absurd (done_refused charges k l p e)
+pub left_charged : (x y : Told Left) (charges : List ComponentCharge) (memory written : List ℤ) (members : List Member) → x ≡ y → done charges ≡ next x (λ left. done left.components)
+    → written ≡ after x (λ left. left.cells) memory → ◌≡◌ {A = Told Charges} (done (charges, member_rows written 0 members)) (next y (λ left. done (left.components, member_rows left.cells 0 members)))
+left_charged (done left) y charges memory written members same e w = let d : charges ≡ left.components = cc in rw (← same, d, w) refl
+left_charged (refused k l p) y charges memory written members same e w = absurd (done_refused charges k l p e)
 
 pub left_refused : {T : Type 0} (x y : Told Left) (g : Left → Told T) (k : ℕ) (l : Layer) (p : ℕ) → x ≡ y → refused k l p ≡ next x (λ left. done left.components) → refused k l p ≡ next y g
 left_refused (done left) y g k l p same e = absurd (refused_done k l p left.components e)

@@ -1,7 +1,7 @@
 -- Lists made member by member.
-use Rattle.std.proofs.Common.{◌≡◌, ℕ, zero, suc, ◌+◌, ◌<◌, ◌≤◌, Bool, true, false, cond, leb, List, [], ◌∷◌, length, get_or, take, drop, ℤ, Option, sym, refl, ap, ◌∙◌, arith}
+use Rattle.std.proofs.Common.{◌≡◌, ℕ, zero, suc, ◌+◌, ◌*◌, ◌<◌, ◌≤◌, Bool, true, false, cond, leb, ltb, List, [], ◌∷◌, ◌++◌, map, length, get_or, take, drop, replicate, ℤ, pos, Option, sym, refl, ap, ◌∙◌, arith}
 use Rattle.std.proofs.lemmas.List.{drop_more, take-map, get_or-take, length-take-le}
-use Rattle.std.proofs.lemmas.Bool.{cond-true, le-leb}
+use Rattle.std.proofs.lemmas.Bool.{cond-true, le-leb, le-ltb}
 use Rattle.refusal.specs.Answers.{Told, done, refused}
 use Rattle.refusal.proofs.Apart.{refused_done}
 use Rattle.cents.proofs.Tabulated.{tabulated}
@@ -15,8 +15,8 @@ use Rattle.statement.specs.Readings.{book_row, book_rows}
 use Rattle.month_text.specs.declared.month.Member.{Member}
 use Rattle.month_text.specs.declared.month.Month.{Month}
 use Rattle.charges_text.specs.declared.charges.MemberCharge.{MemberCharge}
-use Rattle.statement.specs.Charges.{member_charges}
-use Rattle.month_bill.specs.Members.{facts_of_all, units_rule, month_units, member_rows}
+use Rattle.statement.specs.Charges.{members_in, member_charges}
+use Rattle.month_bill.specs.Members.{facts_of_all, units_rule, month_units, member_rows, idle_row, place_rows}
 
 -- a month's units are told by the table of its facts
 pub units_told : (m : Month) (facts : List Facts) → m.count ≤ 32 → facts ≡ facts_of_all m.members → table_rule units_of m.month (take m.count facts) ≡ month_units m
@@ -79,3 +79,18 @@ pub row_at : (statement : List ℤ) (i j : ℕ) (members : List Member) (d : Mem
 row_at statement i j [] d b l = absurd (omega arith)
 row_at statement i zero (m ∷ members) d b l = let e : i + 0 ≡ i = omega arith in rw e refl
 row_at statement i (suc j) (m ∷ members) d b l = let e : i + suc j ≡ i + 1 + j = omega arith in rw e (row_at statement (i + 1) j members d b (omega arith))
+
+-- a place that a statement has no member for pays nothing
+none_paid : (statement : List ℤ) (i : ℕ) → members_in statement ≤ i → member_charges statement i ≡ replicate 13 (pos 0)
+unfolding member_charges
+none_paid statement i l = let e : ltb i (members_in statement) ≡ false = le-ltb i (members_in statement) l in rw e refl
+
+-- so the rows of all places are those of the members, and then the idle ones
+rows_split : (statement : List ℤ) (i n : ℕ) (members : List Member) → members_in statement ≤ i + n → member_rows statement i members ≡ member_rows statement i (take n members) ++ map idle_row (drop n members)
+rows_split statement i zero [] l = refl
+rows_split statement i (suc n) [] l = refl
+rows_split statement i zero (m ∷ members) l = rw (none_paid statement i (omega arith), rows_split statement (i + 1) zero members (omega arith)) refl
+rows_split statement i (suc n) (m ∷ members) l = rw (rows_split statement (i + 1) n members (omega arith)) refl
+
+pub places_told : (statement : List ℤ) (m : Month) → length statement ≡ 13 * m.count → member_rows statement 0 m.members ≡ place_rows statement m
+places_told statement m e = rows_split statement 0 m.count m.members (omega (arith, e))

@@ -23,7 +23,7 @@ use Rattle.month_text.specs.declared.month.Month.{Month}
 use Rattle.month_text.specs.declared.month.Member.{Member}
 use Rattle.month_text.specs.Accepted.{EachTo, EachWithin, EachLawful, Weighed, InRange}
 use Rattle.month_bill.specs.Members.{facts_of_all, month_units}
-use Rattle.month_bill.specs.Bills.{month_sheet, month_heads, charge_members, bill_by}
+use Rattle.month_bill.specs.Bills.{month_sheet, month_heads, charge_places, bill_by}
 use Rattle.month_bill.specs.Late.{late_refusal, OnlyLate}
 
 -- one step, and a test in front
@@ -161,7 +161,7 @@ module _ (m : Month) (r : InRange m) where
   bill_late shares six =
       let n = rows_long paying ∙ paying_long in
       let pools = λ (heads : List ℤ). costs m.sheet.division m.sheet.management m.sheet.split heads in
-      let charged = λ (heads : List ℤ). charge_members shares (pools heads) (rows_of paying) paying in
+      let charged = λ (heads : List ℤ). charge_places shares (pools heads) (rows_of paying) m in
       let tested : (heads : List ℤ) → OnlyLate (charge_rule (pools heads) (rows_of paying) (13 * length (rows_of paying))) =
       λ heads. charge_late (pools heads) (rows_of paying) (omega (arith, n, r.count_low)) (omega (arith, n, r.count_high)) in
       let late : (heads : List ℤ) → OnlyLate (charged heads) =

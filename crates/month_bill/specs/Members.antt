@@ -1,5 +1,5 @@
 -- The members of a month: their units, and what they pay.
-use Rattle.std.specs.Prelude.{ℕ, ◌+◌, cond, List, [], ◌∷◌, map, take, ℤ, nat_le}
+use Rattle.std.specs.Prelude.{ℕ, ◌+◌, cond, List, [], ◌∷◌, ◌++◌, map, take, drop, replicate, ℤ, pos, nat_le}
 use Rattle.refusal.specs.Answers.{Told, refused}
 use Rattle.refusal.specs.declared.Layer.TheVariants as layer
 use Rattle.bottom_books.specs.Tables.{table_rule}
@@ -25,3 +25,11 @@ month_units m = cond (nat_le m.count 32) (units_rule m.month (take m.count m.mem
 abbrev pub member_rows : List ℤ → ℕ → List Member → List MemberCharge
 member_rows statement i [] = []
 member_rows statement i (m ∷ members) = record { account = m.account; charges = member_charges statement i } ∷ member_rows statement (i + 1) members
+
+-- a place that no member has keeps its account, and pays nothing
+abbrev pub idle_row : Member → MemberCharge
+idle_row m = record { account = m.account; charges = replicate 13 (pos 0) }
+
+-- the rows of a month's places: what its members pay by a statement, and then the places that no member has
+abbrev pub place_rows : List ℤ → Month → List MemberCharge
+place_rows statement m = member_rows statement 0 (take m.count m.members) ++ map idle_row (drop m.count m.members)

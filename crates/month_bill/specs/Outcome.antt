@@ -1,5 +1,5 @@
 -- What is printed in answer to a month's text.
-use Rattle.std.specs.Prelude.{ℕ, List}
+use Rattle.std.specs.Prelude.{ℕ, List, take}
 use Rattle.refusal.specs.Answers.{Told, done, refused, next}
 use Rattle.month_text.specs.Months.{read_month}
 use Rattle.charges_text.specs.Printed.{printed}
@@ -11,9 +11,9 @@ abbrev pub said : Told (List ℕ) → List ℕ
 said (done bytes) = bytes
 said (refused number layer place) = refusal_line number layer place
 
--- the text is read, the month is billed, and its charges are printed
+-- the text is read, the month is billed, and the charges of its members are printed
 abbrev pub billed_text : List ℕ → Told (List ℕ)
-billed_text text = next (read_month text) (λ m. next (bill_month m) (λ b. done (printed m.month b.0 b.1)))
+billed_text text = next (read_month text) (λ m. next (bill_month m) (λ b. done (printed m.month b.0 (take m.count b.1))))
 
 -- the first refusal is printed instead
 abbrev pub answer_text : List ℕ → List ℕ

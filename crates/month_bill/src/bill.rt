@@ -1,5 +1,5 @@
 //! A month's bill.
-ghost use Rattle.std.specs.Prelude.{◌≡◌, ◌≤◌, take};
+ghost use Rattle.std.specs.Prelude.{◌≡◌, ◌≤◌};
 ghost use Rattle.refusal.specs.Answers.{answer, answer_by};
 ghost use Rattle.bottom_books.specs.Tables.{cell};
 ghost use Rattle.ledger.specs.Readings.{reading};
@@ -20,8 +20,10 @@ use sharing::posted::Posted;
 use sharing::ratio::Ratio;
 use sharing::rule::Rule;
 
-/// What a month's components and members are charged. Rows of members from the month's count on
-/// stand for no member: the billing crates keep no memory but arrays, with a place for each.
+/// What a month's components and members are charged. There is a row for each of the 32 places
+/// that a month has, as the billing crates keep no memory but arrays. A row from the month's count
+/// on stands for no member: its account is the one that the month's place has (0 in a month that
+/// was read), and its thirteen charges are 0.
 #[derive(Clone, Copy)]
 pub struct Bill {
     pub components: [ComponentCharge; 13],
@@ -35,7 +37,7 @@ fn bill_on<R: Rule>(
     members: [Member; 32],
 ) -> Result<Bill, Fault>
     requires { book.now.units.count ≤ 32 }
-    ensures { answer_by (λ bill. (bill.components, take book.now.units.count bill.members)) result ≡ bill_alone ledger.old (reading book.now.units.month book.now.units.count (cell book.now.units.rows)) members }
+    ensures { answer_by (λ bill. (bill.components, bill.members)) result ≡ bill_alone ledger.old (reading book.now.units.month book.now.units.count (cell book.now.units.rows)) members }
 {
     let count = book.members() as usize;
     let mut file = [Line { units: 0, cents: 0 }; 2496];
@@ -52,7 +54,7 @@ fn bill_on<R: Rule>(
 
 /// Bills a month by a rule, on a new ledger.
 fn bill_by<R: Rule + Copy + Drop>(rule: R, month: &Month) -> Result<Bill, Fault>
-    ensures { answer_by (λ bill. (bill.components, take month.now.count bill.members)) result ≡ bill_by (R.shares rule) month.now }
+    ensures { answer_by (λ bill. (bill.components, bill.members)) result ≡ bill_by (R.shares rule) month.now }
 {
     let sheet = month_sheet(month)?;
     let book = month_book(month)?;
@@ -62,7 +64,7 @@ fn bill_by<R: Rule + Copy + Drop>(rule: R, month: &Month) -> Result<Bill, Fault>
 
 /// Bills a month by its rule, on a new ledger.
 pub fn bill_month(month: &Month) -> Result<Bill, Fault>
-    ensures told { answer_by (λ bill. (bill.components, take month.now.count bill.members)) result ≡ bill_month month.now }
+    ensures told { answer_by (λ bill. (bill.components, bill.members)) result ≡ bill_month month.now }
     ensures late { InRange month.now → OnlyLate (answer result) }
 {
     // Each rule has its own constant STEP, so one type cannot stand for both.

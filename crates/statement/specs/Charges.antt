@@ -1,5 +1,5 @@
 -- What a month's bill charges.
-use Rattle.std.specs.Prelude.{ℕ, zero, suc, ◌+◌, ◌*◌, ◌/◌, List, [], ◌∷◌, ◌++◌, map, length, ℤ, pos, ◌-ℤ◌, sum, slice_index_or}
+use Rattle.std.specs.Prelude.{ℕ, zero, suc, ◌+◌, ◌*◌, ◌/◌, List, [], ◌∷◌, ◌++◌, map, length, ℤ, pos, ◌-ℤ◌, sum, slice_index_or, if◌then◌else◌, nat_lt}
 use Rattle.std.specs.List.{range_with_len}
 use Rattle.cents.specs.Cutting.{sum_z}
 use Rattle.charges_text.specs.declared.charges.ComponentCharge.{ComponentCharge}
@@ -30,6 +30,15 @@ unfoldable pub cells : Shares → List ℤ → List (List ℕ) → ℕ → List 
 cells shares pools rows zero = []
 cells shares pools rows (suc n) = cells shares pools rows n ++ charge shares pools rows n
 
--- a statement's cells of one member, component by component
+-- a statement has thirteen cells for each member that it counts
+abbrev pub members_in : List ℤ → ℕ
+members_in statement = length statement / 13
+
+-- what the member at a place pays for the component at place c; 0 where the statement has no such member
+abbrev pub member_charge : List ℤ → ℕ → ℕ → ℤ
+member_charge statement member c =
+    if nat_lt member (members_in statement) then slice_index_or statement (c * members_in statement + member) (pos 0) else pos 0
+
+-- the same component by component
 unfoldable pub member_charges : List ℤ → ℕ → List ℤ
-member_charges statement member = map (λ c. slice_index_or statement (c * (length statement / 13) + member) (pos 0)) (range_with_len 0 13)
+member_charges statement member = map (member_charge statement member) (range_with_len 0 13)

@@ -1,11 +1,11 @@
 //! One component: its pool shared over a kind's units.
-ghost use Rattle.std.specs.Prelude.{◌≡◌, ◌+◌, ◌<◌, length};
+ghost use Rattle.std.specs.Prelude.{◌≡◌, ℕ, ◌+◌, ◌<◌, ◌≤◌, length, take, ◌-ℤ◌, unsigned_abs};
+ghost use Rattle.cents.specs.Cutting.{sum_z};
 ghost use Rattle.statement.specs.Columns.{kind_of};
 ghost use Rattle.statement.specs.Charges.{charge, charged};
 
 use crate::checks::TestedMonth;
 use crate::kind::Kind;
-use cents::totals::sum_of;
 use charges_text::charges::ComponentCharge;
 use sharing::rule::Rule;
 
@@ -47,6 +47,20 @@ impl Component {
     }
 }
 
+/// What is left of a pool that some cells were charged. Shares of a pool stay near it together, the
+/// first of them as well as all, so 64 bits hold what is left after each.
+fn balance_of(pool: i64, cells: &[i64]) -> i64
+    requires within { unsigned_abs pool ≤ 4000000000 }
+    requires near { (k : ℕ) → unsigned_abs (sum_z (take k cells.now)) ≤ 5000000000 + k }
+    ensures { result ≡ pool -ℤ sum_z cells.now }
+{
+    let mut balance = pool;
+    for cents in cells {
+        balance -= *cents;
+    }
+    balance
+}
+
 impl TestedMonth<'_> {
     /// Charges a component: its cells go into a row, one for each member.
     pub(crate) fn charge_component<R: Rule>(
@@ -64,7 +78,7 @@ impl TestedMonth<'_> {
         let units = self.units.total(kind) as u32;
         let column = self.units.column(kind);
         rule.share(pool, &column[..self.units.rows.len()], row);
-        let balance = (pool as i128 - sum_of(row)) as i64;
+        let balance = balance_of(pool, row);
         ComponentCharge {
             pool,
             units,

@@ -1,8 +1,8 @@
 //! The thirteen components of a month.
-ghost use Rattle.std.specs.Prelude.{◌≡◌, ◌+◌, ◌*◌, ◌/◌, ◌<◌, length, pos, slice_index_or, MatchResult};
+ghost use Rattle.std.specs.Prelude.{◌≡◌, ◌*◌, ◌<◌, length, MatchResult};
 ghost use Rattle.refusal.specs.Answers.{answer_by};
 ghost use Rattle.statement.specs.Checks.{charge_rule};
-ghost use Rattle.statement.specs.Charges.{components, cells, member_charges};
+ghost use Rattle.statement.specs.Charges.{components, cells, member_charge, member_charges};
 
 use crate::checks::TestedMonth;
 use crate::component::Component;
@@ -51,16 +51,18 @@ pub fn charge_month<R: Rule>(
     Ok(month.charge(rule, statement))
 }
 
-/// What a member pays for a component; 0 where the statement has no such cell.
+/// What a member pays for a component; 0 where the statement has no such member.
 fn cell(statement: &[i64], component: Component, member: usize) -> i64
-    ensures { result ≡ slice_index_or statement.now (component.place * (length statement.now / 13) + member) (pos 0) }
+    ensures { result ≡ member_charge statement.now member component.place }
 {
     let members = statement.len() / 13;
-    let cells = &statement[component.place * members..];
-    cells.get(member).copied().unwrap_or(0)
+    let start = component.place * members;
+    let row = &statement[start..start + members];
+    row.get(member).copied().unwrap_or(0)
 }
 
-/// What one member pays for each component of a statement; 0 where the statement has no such cell.
+/// What the member at a place pays for each component of a statement. A statement has thirteen
+/// cells for each member, so it has a thirteenth as many members as cells; any other place pays 0.
 pub fn member_charges(statement: &[i64], member: usize) -> [i64; 13]
     ensures { result ≡ member_charges statement.now member }
 {

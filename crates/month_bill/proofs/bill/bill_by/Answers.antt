@@ -1,11 +1,10 @@
-use Rattle.std.proofs.Common.{ℕ, sym, take, ◌*◌, length, pos, replicate, ap, ◌∙◌, arith}
+use Rattle.std.proofs.Common.{◌*◌, length, pos, replicate, ap, ◌∙◌, arith}
 use Rattle.std.proofs.lemmas.List.{length-replicate}
-use Rattle.refusal.specs.Answers.{done, answer_by}
+use Rattle.refusal.specs.Answers.{done}
 use Rattle.tariff.specs.declared.sheet.Sheet.{Sheet}
 use Rattle.bottom_books.specs.Tables.{cell}
 use Rattle.ledger.specs.Files.{no_line}
 use Rattle.ledger.specs.Readings.{reading}
-use Rattle.month_bill.specs.declared.bill.Bill.{Bill}
 use Rattle.month_bill.specs.Bills.{bill_by}
 use Rattle.month_bill.proofs.Listed.{units_read}
 use Rattle.month_bill.proofs.Chains.{month_billed}
@@ -23,8 +22,8 @@ returns g c =
     let sheet = ap (λ (s : Sheet). done (s.division, s.management, s.split)) o.1 ∙ c.in_ok-sheet.ensures in
     let units = units_read m table.rows table.count made.1 few (omega (arith, table.long, few)) c.in_ok-book.ensures.told in
     let b = reading table.month table.count (cell table.rows) in
-    ap (λ (n : ℕ). answer_by (λ (bill : Bill). (bill.components, take n bill.members)) c.bill_on.result) (sym made.1)
-    ∙ month_billed (sh l.rule) m l.sheet.division l.sheet.management l.sheet.split l.heads.amounts l.accounts (replicate (78 * table.count) no_line) b (length (replicate (13 * table.count) (pos 0))) c.members.result
+    c.bill_on.ensures
+    ∙ month_billed (sh l.rule) (g.met.R.Rule.long l.rule) m l.sheet.division l.sheet.management l.sheet.split l.heads.amounts l.accounts (replicate (78 * table.count) no_line) b (length (replicate (13 * table.count) (pos 0))) c.members.result
     sheet units c.in_ok-ledger.ensures.told o.2 c.members.ensures
-    (length-replicate (78 * table.count) no_line) (length-replicate (13 * table.count) (pos 0)) made.0 table.peopled.0 table.peopled.1 _ made.1 c.bill_on.ensures
+    (length-replicate (78 * table.count) no_line) (length-replicate (13 * table.count) (pos 0)) made.0 made.1 table.peopled.0 table.peopled.1
     ∙ ap (λ rule. bill_by (sh rule) m) o.0

@@ -9,7 +9,7 @@ returns g c =
     let table = c.args.book.now.units in
     let same = in_front c.args.ledger.now (reading table.month table.count (cell table.rows)) c.members-count.result c.members-count.ensures c.requires in
     let e = c.in_ok-components.ensures in
-    rw (c.member_rows-members.ensures) (left_charged _ _ table.count c.in_ok-components.components _ _ c.args.members same e.told e.cells)
+    rw (c.member_rows-members.ensures) (left_charged _ _ c.in_ok-components.components _ _ c.args.members same e.told e.cells)
 
 pub returns-in_err-components : goal.returns-in_err-components
 returns-in_err-components g c =
