@@ -62,7 +62,11 @@ fn book_of(members: u32, odd: u32) -> Result<UnitTable, Fault> {
 
 fn new_ledger<R: Rule>(rule: R, members: u32, turn: u32) -> Result<Ledger<R>, Fault> {
     let mut sheet = Sheet::even();
-    sheet.lay([336, 60, 250, 41, 243, 70], [400, 100, 400, 100], [600, 987])?;
+    sheet.lay(
+        [336, 60, 250, 41, 243, 70],
+        [400, 100, 400, 100],
+        [600, 987],
+    )?;
     let mut ledger = Ledger::open(rule, sheet, members, MONTH)?;
     let first = 2_000_000_000 + i64::from(turn);
     let others = [50_000_000, 40_000_000, 30_000_000, 20_000_000, 10_000_000];
@@ -89,12 +93,7 @@ fn bills<R: Rule + Copy>(rule: R, members: u32, count: u32) -> Result<i64, Fault
 }
 
 /// Bills a month once, and resettles one component of it each turn.
-fn resettlements<R: Rule>(
-    rule: R,
-    component: u32,
-    members: u32,
-    count: u32,
-) -> Result<i64, Fault> {
+fn resettlements<R: Rule>(rule: R, component: u32, members: u32, count: u32) -> Result<i64, Fault> {
     let books = [book_of(members, 0)?, book_of(members, 1)?];
     let mut file = vec![Line::default(); 78 * members as usize];
     let mut statement = vec![0; 13 * members as usize];

@@ -42,7 +42,9 @@ impl UnitTable {
 
     pub fn of_units(month: u32, rows: &[[u32; 7]]) -> Result<UnitTable, Fault> {
         UnitTable::of(month, rows, |row| {
-            row.iter().all(|units| *units <= 2_000_000_000).then_some(*row)
+            row.iter()
+                .all(|units| *units <= 2_000_000_000)
+                .then_some(*row)
         })
     }
 

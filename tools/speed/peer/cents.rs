@@ -10,6 +10,11 @@ pub fn nearest(a: i64, b: i64) -> i64 {
     (2 * a + b).div_euclid(2 * b)
 }
 
+/// What units bear at a rate in hundredths of a cent: to the nearest cent, halves up.
+pub fn at_rate(rate: i64, units: u32) -> i64 {
+    (rate * i64::from(units) + 50).div_euclid(100)
+}
+
 /// The sum of a row of weights.
 pub fn total(weights: &[u32]) -> u64 {
     weights.iter().map(|weight| u64::from(*weight)).sum()

@@ -1,7 +1,7 @@
 //! The FERC annual charge: a year's rate, and the charges of its months.
 
 use super::book::Book;
-use super::cents::nearest;
+use super::cents::{at_rate, nearest};
 use super::refusal::{Fault, Layer, Refusal};
 
 const MOST_CENTS: u64 = 40_000_000_000;
@@ -68,7 +68,7 @@ impl FercYear {
         }
         for (member, cell) in statement.iter_mut().enumerate() {
             let units = book.units(1, member as u32)?;
-            *cell = nearest(self.rate * i64::from(units), 100);
+            *cell = at_rate(self.rate, units);
         }
         self.months += 1;
         self.billed += statement.iter().sum::<i64>();

@@ -98,11 +98,7 @@ fn integer(signs: bool, s: &[u8]) -> Option<(i64, &[u8])> {
 }
 
 /// A whole line of `K` numbers behind its key.
-fn line<'a, const K: usize>(
-    key: &[u8],
-    signs: bool,
-    s: &'a [u8],
-) -> Option<([i64; K], &'a [u8])> {
+fn line<'a, const K: usize>(key: &[u8], signs: bool, s: &'a [u8]) -> Option<([i64; K], &'a [u8])> {
     let mut rest = s.strip_prefix(key)?.strip_prefix(b"=")?;
     let mut numbers = [0; K];
     for (i, number) in numbers.iter_mut().enumerate() {

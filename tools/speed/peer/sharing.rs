@@ -1,6 +1,6 @@
 //! Sharing a pool among the members by their units.
 
-use super::cents::{nearest, split, total};
+use super::cents::{at_rate, nearest, split, total};
 
 const MOST_CENTS: u64 = 4_000_000_000;
 
@@ -29,7 +29,7 @@ impl Rule for Posted {
         if let Some(total) = total_or_clear(pool, units, out) {
             let rate = nearest(100 * pool, total as i64);
             for (share, units) in out.iter_mut().zip(units) {
-                *share = nearest(rate * i64::from(*units), 100);
+                *share = at_rate(rate, *units);
             }
         }
     }

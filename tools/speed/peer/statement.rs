@@ -17,7 +17,11 @@ pub struct ComponentCharge {
 
 /// The place of the kind that a component is charged by.
 pub fn kind_of(component: usize) -> usize {
-    if component < 7 { component } else { component - 7 }
+    if component < 7 {
+        component
+    } else {
+        component - 7
+    }
 }
 
 /// The units of a kind, of all members together.
