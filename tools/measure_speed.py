@@ -45,7 +45,7 @@ FEW, MORE = 2, 22
 WHOLE_RUNS = 20
 
 RUST = ["rustc", "--edition", "2024", "-C", "opt-level=3", "-C", "overflow-checks=on",
-        "-C", "debug-assertions=off", "-C", "codegen-units=1", "-C", "target-cpu=x86-64-v2"]
+        "-C", "debug-assertions=off", "-C", "codegen-units=1"]
 
 
 def build_ours():

@@ -179,11 +179,12 @@ impl<R: Rule> Ledger<R> {
         for (member, units) in units.iter_mut().enumerate() {
             *units = book.units(kind, member as u32)?;
         }
-        if total(units) > MOST_UNITS {
+        let whole = total(units);
+        if whole > MOST_UNITS {
             return Err(Layer::Ledger.refuses_at(Refusal::Total, kind));
         }
         self.rule
-            .share(account.pools[slot_of(book.month())], units, fresh);
+            .share(account.pools[slot_of(book.month())], units, whole, fresh);
         let fault = Layer::Ledger.refuses_at(Refusal::Resettled, component as u32 + 1);
         if !lines
             .iter()

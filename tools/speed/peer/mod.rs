@@ -1,6 +1,6 @@
-//! The biller in plain Rust: the same steps over the same data as the proved crates, checked by
-//! nothing but the compiler and its tests for overflow. All its sums are in 64 bits, as the rules'
-//! own ranges allow.
+//! The biller in plain Rust: the steps of the proved crates over the same data, checked by nothing but
+//! the compiler and its tests for overflow. All its sums are in 64 bits, as the rules' own ranges
+//! allow, and it adds up the units of a kind once where the proved crates do so again.
 
 pub mod book;
 pub mod cents;

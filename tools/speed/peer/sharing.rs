@@ -1,36 +1,33 @@
 //! Sharing a pool among the members by their units.
 
-use super::cents::{at_rate, nearest, split, total};
+use super::cents::{at_rate, nearest, split};
 
 const MOST_CENTS: u64 = 4_000_000_000;
 
 const MOST_UNITS: u64 = 2_000_000_000;
 
 pub trait Rule {
-    /// Tells the shares of all members.
-    fn share(&self, pool: i64, units: &[u32], out: &mut [i64]);
+    /// Tells the shares of all members, from a pool, their units and the total of these.
+    fn share(&self, pool: i64, units: &[u32], total: u64, out: &mut [i64]);
 }
 
-/// The total to share over; none where nothing is shared, and then each place gets 0.
-fn total_or_clear(pool: i64, units: &[u32], out: &mut [i64]) -> Option<u64> {
-    let total = total(units);
-    if pool.unsigned_abs() > MOST_CENTS || !(1..=MOST_UNITS).contains(&total) {
-        out.fill(0);
-        return None;
-    }
-    Some(total)
+/// Whether a pool can be shared over so many units; where it cannot, each place gets 0.
+fn can_share(pool: i64, total: u64) -> bool {
+    pool.unsigned_abs() <= MOST_CENTS && (1..=MOST_UNITS).contains(&total)
 }
 
 #[derive(Clone, Copy)]
 pub struct Posted;
 
 impl Rule for Posted {
-    fn share(&self, pool: i64, units: &[u32], out: &mut [i64]) {
-        if let Some(total) = total_or_clear(pool, units, out) {
-            let rate = nearest(100 * pool, total as i64);
-            for (share, units) in out.iter_mut().zip(units) {
-                *share = at_rate(rate, *units);
-            }
+    fn share(&self, pool: i64, units: &[u32], total: u64, out: &mut [i64]) {
+        if !can_share(pool, total) {
+            out.fill(0);
+            return;
+        }
+        let rate = nearest(100 * pool, total as i64);
+        for (share, units) in out.iter_mut().zip(units) {
+            *share = at_rate(rate, *units);
         }
     }
 }
@@ -39,9 +36,11 @@ impl Rule for Posted {
 pub struct Ratio;
 
 impl Rule for Ratio {
-    fn share(&self, pool: i64, units: &[u32], out: &mut [i64]) {
-        if let Some(total) = total_or_clear(pool, units, out) {
-            split(pool, total, units, out);
+    fn share(&self, pool: i64, units: &[u32], total: u64, out: &mut [i64]) {
+        if !can_share(pool, total) {
+            out.fill(0);
+            return;
         }
+        split(pool, total, units, out);
     }
 }

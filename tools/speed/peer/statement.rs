@@ -38,15 +38,17 @@ fn column(rows: &[[u32; 7]], kind: usize) -> [u32; 200] {
     column
 }
 
-fn test(pools: &[i64; 13], rows: &[[u32; 7]], cells: usize) -> Result<(), Fault> {
+/// All tests of a month, and the totals of its kinds.
+fn test(pools: &[i64; 13], rows: &[[u32; 7]], cells: usize) -> Result<[u64; 7], Fault> {
     if rows.len() * 13 != cells {
         return Err(Layer::Ledger.refuses(Refusal::Length));
     }
     if rows.is_empty() || rows.len() > 200 {
         return Err(Layer::Ledger.refuses(Refusal::Count));
     }
-    for kind in 0..7 {
-        if total(rows, kind) > MOST_UNITS {
+    let totals: [u64; 7] = std::array::from_fn(|kind| total(rows, kind));
+    for (kind, total) in totals.iter().enumerate() {
+        if *total > MOST_UNITS {
             return Err(Layer::Ledger.refuses_at(Refusal::Total, kind as u32 + 1));
         }
     }
@@ -55,7 +57,7 @@ fn test(pools: &[i64; 13], rows: &[[u32; 7]], cells: usize) -> Result<(), Fault>
             return Err(Layer::Ledger.refuses_at(Refusal::Pool, place as u32 + 1));
         }
     }
-    Ok(())
+    Ok(totals)
 }
 
 fn charge_component<R: Rule>(
@@ -63,15 +65,15 @@ fn charge_component<R: Rule>(
     pool: i64,
     rows: &[[u32; 7]],
     kind: usize,
+    total: u64,
     cells: &mut [i64],
 ) -> ComponentCharge {
-    let units = total(rows, kind) as u32;
     let column = column(rows, kind);
-    rule.share(pool, &column[..rows.len()], cells);
+    rule.share(pool, &column[..rows.len()], total, cells);
     let balance = pool - cells.iter().sum::<i64>();
     ComponentCharge {
         pool,
-        units,
+        units: total as u32,
         balance,
     }
 }
@@ -83,11 +85,12 @@ pub fn charge_month<R: Rule>(
     rows: &[[u32; 7]],
     statement: &mut [i64],
 ) -> Result<[ComponentCharge; 13], Fault> {
-    test(&pools, rows, statement.len())?;
+    let totals = test(&pools, rows, statement.len())?;
     let mut charges = [ComponentCharge::default(); 13];
     let cells = statement.chunks_exact_mut(rows.len());
     for (place, (charge, cells)) in charges.iter_mut().zip(cells).enumerate() {
-        *charge = charge_component(rule, pools[place], rows, kind_of(place), cells);
+        let kind = kind_of(place);
+        *charge = charge_component(rule, pools[place], rows, kind, totals[kind], cells);
     }
     Ok(charges)
 }
