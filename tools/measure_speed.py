@@ -141,6 +141,11 @@ def measure_whole(pair, repetitions):
     return [seconds * 1e6 for seconds in times], counted
 
 
+def first_line(*words):
+    """The first line that a command prints."""
+    return subprocess.run(words, check=True, capture_output=True, text=True).stdout.splitlines()[0]
+
+
 def show(name, members, times, counted):
     print(f"| {name} | {members} | {times[0]:,.2f} | {times[1]:,.2f} | {times[0] / times[1]:.2f} "
           f"| {counted[0]:,.0f} | {counted[1]:,.0f} | {counted[0] / counted[1]:.2f} |", flush=True)
@@ -156,6 +161,8 @@ def main():
         ours = {name: given.built.resolve() / name for name in ("speed", "bill")}
     else:
         ours = build_ours()
+    print(f"{first_line('rt', 'version')}; {first_line('rustc', '--version')}; "
+          f"{first_line('valgrind', '--version')}; {time.strftime('%Y-%m-%d')}\n")
     print("| Task | Members | µs | of Rust | ratio | instructions | of Rust | ratio |")
     print("|---|---|---|---|---|---|---|---|", flush=True)
     pair = (ours["speed"], peers["speed"])
