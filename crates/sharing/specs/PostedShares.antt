@@ -2,13 +2,15 @@
 use Rattle.std.specs.Prelude.{◌≡◌, ℕ, suc, ◌+◌, ◌*◌, ◌<◌, ◌≤◌, true, List, map, ℤ, pos, negsuc, ◌+ℤ◌, ◌*ℤ◌, sum, slice_index, slice_index_or, unsigned_abs}
 use Rattle.std.proofs.Common.{mul-le-mul_left, arith, sym, ap, subst}
 use borrow.Author.Differences.{ints, up, down}
-use Rattle.std.proofs.lemmas.Bool.{cond-true}
+use Rattle.std.proofs.lemmas.Bool.{cond-true, cond_both}
 use Rattle.cents.specs.Rounding.{round_nearest}
-use Rattle.cents.proofs.Quotients.{down_left, down_unique}
+use Rattle.cents.proofs.Quotients.{down_left, down_unique, nearest_inside}
 use Rattle.sharing.specs.Domain.{in_domain, shareable}
 use Rattle.sharing.specs.Tolerance.{Near}
 use Rattle.sharing.specs.Posted.{posted_rate, posted_share}
 use Rattle.sharing.specs.Members.{map_at}
+use Rattle.cents.proofs.Magnitudes.{inside_abs}
+use Rattle.std.proofs.lemmas.Int.{unsigned_abs-mul}
 use Rattle.sharing.specs.Domains.{in_domain_lem, unit_le}
 
 pub nearest_none : (b : ℕ) (z : ℤ) → 0 < b → round_nearest (z *ℤ pos 0) b ≡ pos 0
@@ -26,6 +28,16 @@ rate_fits p us e m =
     let s = rate_small p (round_nearest (pos 100 *ℤ p) (sum us)) (sum us) (slice_index us m) l.0 d.0 d.2 (unit_le us m) l.1 l.2 in
     let c = cond-true (in_domain p (sum us)) (round_nearest (pos 100 *ℤ p) (sum us)) (pos 0) e in
     subst (λ (z : ℤ). unsigned_abs z * slice_index us m ≤ 1000000000000) (sym c) s
+
+rate_in : (p : ℤ) (T : ℕ) → in_domain p T ≡ true → unsigned_abs (round_nearest (pos 100 *ℤ p) T) ≤ 400000000000
+rate_in p T e =
+    let d = in_domain_lem p T e in
+    let i = inside_abs (pos 100 *ℤ p) (round_nearest (pos 100 *ℤ p) T) (nearest_inside (pos 100 *ℤ p) T d.1) in
+    omega (arith, d.0, unsigned_abs-mul (pos 100) p, i)
+
+-- a rate is at most a hundred times the largest pool
+pub rate_within : (p : ℤ) (T : ℕ) → unsigned_abs (posted_rate p T) ≤ 400000000000
+rate_within p T = cond_both (in_domain p T) (round_nearest (pos 100 *ℤ p) T) (pos 0) (λ z. unsigned_abs z ≤ 400000000000) (rate_in p T) (λ _. omega arith)
 
 -- the two remainders, over one total; each number is a difference of two
 over_total : (p p' q q' s s' T u r t : ℕ) → r < 2 * T → t < 200 → 200 * p + T + 2 * (T * q') ≡ 200 * p' + 2 * (T * q) + r

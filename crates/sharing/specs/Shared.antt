@@ -1,10 +1,10 @@
 -- Shares where they can be made, and else 0 for each member: what each law of a rule asks of them.
-use Rattle.std.specs.Prelude.{◌≡◌, ℕ, true, false, List, length, ℤ, pos, sum, slice_index, slice_index_or}
-use Rattle.std.proofs.Common.{sym, subst}
+use Rattle.std.specs.Prelude.{◌≡◌, ℕ, true, false, List, length, ℤ, pos, sum, ◌==◌, slice_index, slice_index_or}
+use Rattle.std.proofs.Common.{sym, subst, ◌∙◌}
 use Rattle.std.proofs.lemmas.List.{length-replicate}
-use Rattle.std.proofs.lemmas.Bool.{cond-true, cond-false, cond_both}
+use Rattle.std.proofs.lemmas.Bool.{cond-true, cond-false, cond_both, eq-eqb}
 use Rattle.sharing.specs.Domain.{shareable}
-use Rattle.sharing.specs.Shares.{shared, no_shares}
+use Rattle.sharing.specs.Shares.{shared, no_shares, laid}
 use Rattle.sharing.specs.Tolerance.{Near}
 use Rattle.sharing.specs.Domains.{none_at}
 
@@ -23,3 +23,7 @@ shared_fair d p us ss m e h = subst (λ (xs : List ℤ). Near d p (sum us) (slic
 
 pub shared_unused : (p : ℤ) (us : List ℕ) (ss : List ℤ) (m : ℕ) → slice_index_or ss m (pos 0) ≡ pos 0 → slice_index_or (shared p us ss) m (pos 0) ≡ pos 0
 shared_unused p us ss m e = cond_both (shareable p us) ss (no_shares us) (λ xs. slice_index_or xs m (pos 0) ≡ pos 0) (λ _. e) (λ _. none_at us m)
+
+-- a memory with a place for each member has the shares
+pub laid_is : (us : List ℕ) (memory ss out : List ℤ) → length us ≡ length memory → out ≡ laid us memory ss → out ≡ ss
+laid_is us memory ss out l h = h ∙ cond-true (length us == length memory) ss memory (eq-eqb (length us) (length memory) l)
