@@ -10,7 +10,7 @@ pub struct Unbooked {
     pub amounts: [i64; 6],
 }
 
-/// Who does not want the amounts takes the fault alone, by `?`.
+/// The fault alone, for a caller that has no use for the amounts.
 impl From<Unbooked> for Fault {
     ghost from_gives = { λ unbooked fault. fault ≡ unbooked.fault };
 
