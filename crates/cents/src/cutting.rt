@@ -6,6 +6,12 @@ ghost use Rattle.cents.specs.Rounding.{Inside};
 use crate::rounding::down;
 use crate::weights::total;
 
+/// No larger amount, on either side of 0, is cut in 64 bits.
+const MOST_AMOUNT: u64 = 4_000_000_000;
+
+/// No larger whole is cut in 64 bits: the product of both fits.
+const MOST_WHOLE: u64 = 2_000_000_000;
+
 /// What the weights up to a running sum take of the amount, rounded down. A running sum above the
 /// whole counts as the whole.
 pub fn taken(amount: i64, run: u64, whole: u64) -> i64
@@ -19,14 +25,16 @@ pub fn taken(amount: i64, run: u64, whole: u64) -> i64
     }
 }
 
-/// The same for a running sum of at most the whole, where all numbers on the way fit 64 bits: such a
-/// division is much the faster. None where one does not fit, or the whole is 0.
+/// The same for a running sum of at most the whole, where amount and whole are small enough: such a
+/// division is much the faster. None where one is not, or the whole is 0.
 fn taken_in_64_bits(amount: i64, run: u64, whole: u64) -> Option<i64>
     requires { run ≤ whole }
     ensures { IfSome result (λ cents. cents ≡ taken amount whole run) }
 {
-    let whole = i64::try_from(whole).ok()?;
-    amount.checked_mul(run as i64)?.checked_div_euclid(whole)
+    if whole == 0 || amount.unsigned_abs() > MOST_AMOUNT || whole > MOST_WHOLE {
+        return None;
+    }
+    Some((amount * run as i64).div_euclid(whole as i64))
 }
 
 /// Writes what each weight takes of the amount, after those before it. Where there is not one place

@@ -29,6 +29,6 @@ pub fn nearest(a: i64, b: u64) -> i64
 pub fn nearest_cents(hundredths: i64) -> i64
     ensures { result ≡ round_nearest hundredths 100 }
 {
-    // Half of it first: (x + 50) ÷ 100 in one step overflows at the largest amounts
-    (hundredths.div_euclid(2) + 25).div_euclid(50)
+    // Half of it first, down: (x + 50) ÷ 100 in one step overflows at the largest amounts
+    ((hundredths >> 1) + 25).div_euclid(50)
 }
