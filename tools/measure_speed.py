@@ -3,10 +3,10 @@
 
     measure_speed.py [--rounds N] [--built FOLDER]
 
-proves and builds the programs `speed` and `bill`, builds their twins (`tools/speed/`) with rustc at
+proves and builds the programs `speed_cases` and `bill`, builds their twins (`tools/speed/`) with rustc at
 its level 3 with tests for overflow, and prints a table of both: for each task the time of one turn, and
 its instructions. Where a twin comes to another sum or prints another text, the script ends there
-with status 1. With --built, the programs `speed` and `bill` of that folder are measured, and only
+with status 1. With --built, the programs `speed_cases` and `bill` of that folder are measured, and only
 the twins are built.
 
 A turn's instructions are those of a run with more turns less those of a run with fewer, divided by
@@ -29,6 +29,7 @@ from pathlib import Path
 ROOT = Path(__file__).resolve().parent.parent
 CRATES = ROOT / "crates"
 PEERS = ROOT / "target" / "speed"
+PROGRAMS = ("speed_cases", "bill")
 
 # The task, its members, the turns of a run that is timed, and what a turn does.
 TASKS = (
@@ -69,7 +70,7 @@ class Case:
 
 def task_case(pair, task, members, turns, name):
     long, short = ([task, str(members), str(count)] for count in (turns, 1))
-    return Case(name, members, pair, CRATES / "speed" / "stdin", turns - 1, long, short)
+    return Case(name, members, pair, CRATES / "speed_cases" / "stdin", turns - 1, long, short)
 
 
 def whole_case(pair):
@@ -78,7 +79,7 @@ def whole_case(pair):
 
 def build_ours():
     """Proves and builds both programs; `rt run` leaves them in the crates' folders `out`."""
-    for name in ("speed", "bill"):
+    for name in PROGRAMS:
         crate = CRATES / name
         words = crate / "args"
         given = ["--", *words.read_text().split()] if words.exists() else []
@@ -87,15 +88,15 @@ def build_ours():
                                   capture_output=True, text=True)
         if done.returncode or done.stdout != (crate / "stdout").read_text():
             sys.exit(f"{name} is not proved, or prints another text:\n{done.stderr}")
-    return {name: CRATES / name / "out" / name for name in ("speed", "bill")}
+    return {name: CRATES / name / "out" / name for name in PROGRAMS}
 
 
 def build_peers():
     PEERS.mkdir(parents=True, exist_ok=True)
-    for name in ("speed", "bill"):
+    for name in PROGRAMS:
         source = ROOT / "tools" / "speed" / f"{name}.rs"
         subprocess.run([*RUST, "-o", PEERS / name, source], check=True)
-    return {name: PEERS / name for name in ("speed", "bill")}
+    return {name: PEERS / name for name in PROGRAMS}
 
 
 def printed(program, words, text):
@@ -176,9 +177,9 @@ def main():
     parser.add_argument("--built", type=Path)
     given = parser.parse_args()
     peers = build_peers()
-    built = given.built and {name: given.built.resolve() / name for name in ("speed", "bill")}
+    built = given.built and {name: given.built.resolve() / name for name in PROGRAMS}
     ours = built or build_ours()
-    pair = (ours["speed"], peers["speed"])
+    pair = (ours["speed_cases"], peers["speed_cases"])
     cases = [task_case(pair, *task) for task in TASKS]
     cases.append(whole_case((ours["bill"], peers["bill"])))
     for case in cases:

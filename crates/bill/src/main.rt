@@ -3,15 +3,12 @@
 
 ghost use Rattle.std.specs.Prelude.{◌≤◌, length, IfOk};
 
+use limits::MOST_TEXT_BYTES;
 use month_bill::answer::answer;
 use std::io;
 use std::io::Read;
 
-/// One byte more than the longest text, so that a longer one is seen.
-const MOST: usize = 16_385;
-
-/// Reads until the memory is full or the input ends. The memory is fixed, as elsewhere in billing: `take`
-/// and `read_to_end` would use the heap and state no bound on what is read.
+/// Reads until the memory is full or the input ends, and gives the number of bytes read.
 fn fill<R: Read>(input: &mut R, memory: &mut [u8]) -> io::Result<usize>
     ensures { IfOk result (λ n. n ≤ length memory.old) }
 {
@@ -27,7 +24,8 @@ fn fill<R: Read>(input: &mut R, memory: &mut [u8]) -> io::Result<usize>
 }
 
 fn main(rt: HostRuntime) -> io::Result<()> {
-    let mut memory = [0u8; MOST];
+    // One byte more than the longest text, so that a longer one is seen.
+    let mut memory = [0u8; MOST_TEXT_BYTES + 1];
     let len = fill(&mut rt.stdin(), &mut memory)?;
     let text = answer(rt.alloc(), &memory[0..len])?;
     print!(rt; "{text}")

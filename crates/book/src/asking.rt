@@ -5,13 +5,8 @@ ghost use Rattle.book.specs.Asking.{pair_rule};
 ghost use Rattle.book.specs.Correcting.{new_units_rule, sum_rule};
 
 use crate::book::Book;
+use limits::MOST_UNITS;
 use refusal::{Fault, Layer, Refusal};
-
-/// The largest correction, either way.
-const MOST_AMOUNT: u64 = 2_000_000_000;
-
-/// The most units of one kind and member.
-const MOST_UNITS: i64 = 2_000_000_000;
 
 /// Tests a kind and a member's place.
 pub fn check_pair(count: u32, kind: u32, member: u32) -> Result<(), Fault>
@@ -31,7 +26,7 @@ fn added(units: u32, amount: i64) -> Result<u32, Fault>
     ensures { answer result ≡ sum_rule units amount }
 {
     match i64::from(units).checked_add(amount) {
-        Some(sum @ 0..=MOST_UNITS) => Ok(sum as u32),
+        Some(sum) if 0 <= sum && sum as u64 <= MOST_UNITS => Ok(sum as u32),
         _ => Err(Layer::Book.refuses(Refusal::Corrected)),
     }
 }
@@ -39,10 +34,10 @@ fn added(units: u32, amount: i64) -> Result<u32, Fault>
 /// The units that a correction of a book would leave at its pair, before it is asked whether the
 /// book takes that pair.
 pub fn new_units<B: Book>(book: &B, kind: u32, member: u32, amount: i64) -> Result<u32, Fault>
-    ensures told { answer result ≡ new_units_rule (B.count book.now) (B.held book.now kind member) kind member amount }
-    ensures small { IfOk result (λ units. units ≤ 2000000000) }
+    ensures answered { answer result ≡ new_units_rule (B.count book.now) (B.units book.now kind member) kind member amount }
+    ensures small { IfOk result (λ units. units ≤ MOST_UNITS) }
 {
-    if amount.unsigned_abs() > MOST_AMOUNT {
+    if amount.unsigned_abs() > MOST_UNITS {
         return Err(Layer::Book.refuses(Refusal::Range));
     }
     let units = book.units(kind, member)?;

@@ -1,6 +1,9 @@
 //! Books at their edges: what they answer, printed line by line.
 #![tactic(auto)]
 
+mod flat_book;
+
+use crate::flat_book::FlatBook;
 use book::book::{Book, Correctable};
 use bottom_books::fact_book::FactBook;
 use bottom_books::standing::Standing;
@@ -25,7 +28,7 @@ fn show<B: Book>(rt: &HostRuntime, name: &str, book: &B, kind: u32, member: u32)
 
 // The program of FERC cases has the like; a crate of its own for these lines is no plainer.
 /// Prints whether a call was accepted.
-fn told(rt: &HostRuntime, name: &str, answer: Result<(), Fault>) -> io::Result<()> {
+fn print_answer(rt: &HostRuntime, name: &str, answer: Result<(), Fault>) -> io::Result<()> {
     match answer {
         Ok(()) => println!(rt; "{name}: accepted"),
         Err(fault) => {
@@ -50,18 +53,18 @@ fn taken<B: Correctable>(
 /// A count of 4 invoices means 4, whatever office encoded the book.
 fn table(rt: &HostRuntime) -> io::Result<TableBook> {
     let mut book = TableBook::blank();
-    told(rt, "table of no members", book.fill(24_277, &[]))?;
-    told(
+    print_answer(rt, "table of no members", book.fill(24_277, &[]))?;
+    print_answer(
         rt,
         "table before the first month",
         book.fill(24_276, &[[0; 7]]),
     )?;
-    told(
+    print_answer(
         rt,
         "table above the most units",
         book.fill(24_277, &[[2_000_000_001; 7]]),
     )?;
-    told(
+    print_answer(
         rt,
         "table of ten members",
         book.fill(24_277, &[[1, 2, 3, 4, 5, 6, 4]; 10]),
@@ -74,13 +77,13 @@ fn table(rt: &HostRuntime) -> io::Result<TableBook> {
 
 /// Corrections to the edges of the range, and one past each.
 fn edges(rt: &HostRuntime, mut book: TableBook) -> io::Result<()> {
-    told(rt, "down to 0", book.correct(1, 0, -1))?;
-    told(rt, "below 0", book.correct(1, 0, -1))?;
-    told(rt, "up to the most", book.correct(1, 0, 2_000_000_000))?;
-    told(rt, "above the most", book.correct(1, 0, 1))?;
-    told(rt, "beyond any amount", book.correct(9, 99, 2_000_000_001))?;
-    told(rt, "of no kind", book.correct(0, 0, 1))?;
-    told(rt, "of no member", book.correct(1, 10, 1))?;
+    print_answer(rt, "down to 0", book.correct(1, 0, -1))?;
+    print_answer(rt, "below 0", book.correct(1, 0, -1))?;
+    print_answer(rt, "up to the most", book.correct(1, 0, 2_000_000_000))?;
+    print_answer(rt, "above the most", book.correct(1, 0, 1))?;
+    print_answer(rt, "beyond any amount", book.correct(9, 99, 2_000_000_001))?;
+    print_answer(rt, "of no kind", book.correct(0, 0, 1))?;
+    print_answer(rt, "of no member", book.correct(1, 10, 1))?;
     show(rt, "table", &book, 1, 0)?;
     show(rt, "table", &book, 1, 1)
 }
@@ -102,13 +105,13 @@ fn layers(rt: &HostRuntime, book: TableBook) -> io::Result<()> {
     let mut layer = Corrections::over(book);
     let accepted = correct_pairs(&mut layer, 0, 64);
     println!(rt; "pairs kept: {accepted}")?;
-    told(rt, "a 65th pair", layer.correct(2, 9, 1))?;
-    told(rt, "a kept pair again", layer.correct(1, 0, 5))?;
+    print_answer(rt, "a 65th pair", layer.correct(2, 9, 1))?;
+    print_answer(rt, "a kept pair again", layer.correct(1, 0, 5))?;
     show(rt, "layer", &layer, 1, 0)?;
     show(rt, "layer", &layer, 2, 9)?;
     show(rt, "layer", &layer, 3, 9)?;
     let mut upper = Corrections::over(layer);
-    told(rt, "the 65th pair above", upper.correct(2, 9, 1))?;
+    print_answer(rt, "the 65th pair above", upper.correct(2, 9, 1))?;
     show(rt, "upper", &upper, 2, 9)?;
     show(rt, "upper", &upper, 1, 0)
 }
@@ -133,7 +136,7 @@ fn counted_pairs(rt: &HostRuntime, book: TableBook) -> io::Result<()> {
     taken(rt, "layer", &layer, 0, 10)?;
     let times = correct_one_pair(&mut layer, 70);
     println!(rt; "corrections of one pair: {times}")?;
-    told(rt, "another below 0", layer.correct(2, 1, -3))?;
+    print_answer(rt, "another below 0", layer.correct(2, 1, -3))?;
     taken(rt, "layer", &layer, 2, 9)?;
     let accepted = correct_pairs(&mut layer, 1, 64);
     println!(rt; "other pairs kept: {accepted}")?;
@@ -141,8 +144,8 @@ fn counted_pairs(rt: &HostRuntime, book: TableBook) -> io::Result<()> {
     taken(rt, "layer", &layer, 0, 10)?;
     taken(rt, "layer", &layer, 1, 0)?;
     taken(rt, "layer", &layer, 1, 9)?;
-    told(rt, "a 65th pair", layer.correct(2, 9, 0))?;
-    told(rt, "the last pair again", layer.correct(1, 9, 5))?;
+    print_answer(rt, "a 65th pair", layer.correct(2, 9, 0))?;
+    print_answer(rt, "the last pair again", layer.correct(1, 9, 5))?;
     show(rt, "layer", &layer, 1, 0)?;
     show(rt, "layer", &layer, 1, 9)?;
     show(rt, "layer", &layer, 2, 9)?;
@@ -162,13 +165,13 @@ fn others(rt: &HostRuntime, table: TableBook) -> io::Result<()> {
         invoices: 1,
     };
     let mut book = StandingBook::blank();
-    told(rt, "746 hours", book.fill(24_277, 746, 31, &[member]))?;
-    told(rt, "745 hours", book.fill(24_277, 745, 31, &[member]))?;
+    print_answer(rt, "746 hours", book.fill(24_277, 746, 31, &[member]))?;
+    print_answer(rt, "745 hours", book.fill(24_277, 745, 31, &[member]))?;
     show(rt, "standing", &book, 1, 0)?;
     show(rt, "standing", &book, 6, 0)?;
     let mut facts = FactBook::blank();
     let row = Facts::from([300, 100, 5, 6, 0, 10, 2, 0, 30, 0, 4]);
-    told(rt, "facts", facts.fill(24_278, &[row]))?;
+    print_answer(rt, "facts", facts.fill(24_278, &[row]))?;
     show(rt, "facts", &facts, 3, 0)?;
     show(rt, "facts", &facts, 4, 0)?;
     let books = [EitherBook::First(facts), EitherBook::Second(table)];
@@ -178,10 +181,26 @@ fn others(rt: &HostRuntime, table: TableBook) -> io::Result<()> {
     Ok(())
 }
 
+/// A book of one's own, and the counts of members that it may have.
+fn flat(rt: &HostRuntime) -> io::Result<()> {
+    for count in [0, 3, 200, 201] {
+        let Some(book) = FlatBook::of(24_277, count, 5) else {
+            println!(rt; "flat book of {count}: none")?;
+            continue;
+        };
+        println!(rt; "flat book of {count}")?;
+        show(rt, "flat", &book, 7, 2)?;
+        show(rt, "flat", &book, 8, 2)?;
+        show(rt, "flat", &book, 7, count)?;
+    }
+    Ok(())
+}
+
 fn main(rt: HostRuntime) -> io::Result<()> {
     let book = table(&rt)?;
     edges(&rt, book)?;
     layers(&rt, book)?;
     others(&rt, book)?;
-    counted_pairs(&rt, book)
+    counted_pairs(&rt, book)?;
+    flat(&rt)
 }

@@ -1,3 +1,3 @@
 pub mod Rows
-pub mod Small
+pub mod UnitsInRange
 pub mod Cells

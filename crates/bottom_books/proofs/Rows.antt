@@ -1,8 +1,8 @@
 -- Rows of units, read one after the other.
 use Rattle.std.proofs.Common.{ℕ, List, ◌++◌}
-use Rattle.refusal.specs.Answers.{Told, done, refused}
+use Rattle.refusal.specs.Answers.{Answer, done, refused}
 
--- rows that stand in front of those that are left
-abbrev pub onto : List (List ℕ) → Told (List (List ℕ)) → Told (List (List ℕ))
+-- rows in front of those that are left
+abbrev pub onto : List (List ℕ) → Answer (List (List ℕ)) → Answer (List (List ℕ))
 onto rows (done more) = done (rows ++ more)
 onto rows (refused n l p) = refused n l p

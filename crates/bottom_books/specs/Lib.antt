@@ -1,4 +1,5 @@
 pub mod Tables
+pub mod Filled
 pub mod Standings
 pub mod Given
-pub mod Bounds
+pub mod LawsOfMeasures

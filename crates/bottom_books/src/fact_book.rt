@@ -1,12 +1,13 @@
 //! A book that is read off the members' facts.
-ghost use Rattle.std.specs.Prelude.{◌≡◌, length, take, MatchResult};
-ghost use Rattle.refusal.specs.Answers.{answer, bare, done};
+ghost use Rattle.std.specs.Prelude.{◌≡◌, MatchResult};
+ghost use Rattle.refusal.specs.Answers.{answer, bare};
 ghost use Rattle.units.specs.Kinds.{units_of};
 ghost use Rattle.bottom_books.specs.Tables.{table_rule};
-ghost use Rattle.bottom_books.specs.Bounds.{facts_small};
+ghost use Rattle.bottom_books.specs.Filled.{Filled};
+ghost use Rattle.bottom_books.specs.LawsOfMeasures.{facts_small};
 
-use crate::held_book::HeldBook;
 use crate::measure::Measure;
+use crate::measured_book::MeasuredBook;
 use refusal::Fault;
 use units::facts::Facts;
 
@@ -25,14 +26,15 @@ impl Measure<Facts> for FactUnits {
 }
 
 /// A month's units, as the members' facts make them.
-pub type FactBook = HeldBook<FactUnits>;
+pub type FactBook = MeasuredBook<FactUnits>;
 
-// The table book has the like: one generic `fill` reads by `M::default()`, which no clause can name.
-impl HeldBook<FactUnits> {
+impl MeasuredBook<FactUnits> {
     /// Makes the book of a month from its members' facts; refused, it stays as it was.
     pub fn fill(&mut self, month: u32, facts: &[Facts]) -> Result<(), Fault>
-        ensures told { answer result ≡ bare (table_rule units_of month facts.now) }
-        ensures after { MatchResult result (λ _. (self.new.units.month ≡ month) × (self.new.units.count ≡ length facts.now) × (table_rule units_of month facts.now ≡ done (take (length facts.now) self.new.units.rows))) (λ _. self.new ≡ self.old) }
+        ensures answered { answer result ≡ bare (table_rule units_of month facts.now) }
+        ensures after { MatchResult result
+            (λ _. Filled self.new.units month facts.now (table_rule units_of month facts.now))
+            (λ _. self.new ≡ self.old) }
     {
         self.units.fill(month, &FactUnits, facts)
     }

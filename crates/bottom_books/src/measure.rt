@@ -1,5 +1,6 @@
 //! How a member's row in some office's form becomes units of the seven kinds.
 ghost use Rattle.std.specs.Prelude.{◌≡◌, ℕ, ◌≤◌, List, Some, Option, slice_index};
+ghost use Rattle.limits.specs.declared.TheConstants.{MOST_UNITS};
 
 /// Reads a member's row as units, or finds it out of range.
 pub trait Measure<R> {
@@ -9,5 +10,5 @@ pub trait Measure<R> {
     fn read(&self, row: &R) -> Option<[u32; 7]>
         ensures { result ≡ reads self.now row.now };
 
-    ghost small: { (x : Self) (row : R) (units : List ℕ) → reads x row ≡ Some units → (k : ℕ) → slice_index units k ≤ 2000000000 };
+    ghost small: { (x : Self) (row : R) (units : List ℕ) → reads x row ≡ Some units → (k : ℕ) → slice_index units k ≤ MOST_UNITS };
 }

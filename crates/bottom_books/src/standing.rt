@@ -2,11 +2,7 @@
 ghost use Rattle.std.specs.Prelude.{◌≡◌};
 ghost use Rattle.bottom_books.specs.Standings.{standing_lawful, megawatts_lawful, given_lawful};
 
-/// The most megawatts of one member.
-const MOST_MEGAWATTS: u32 = 1_000_000;
-
-/// The most units that may be given.
-const MOST_UNITS: u32 = 2_000_000_000;
+use limits::{MOST_MEGAWATTS, MOST_UNITS};
 
 /// A member's standing megawatts for kinds 1, 2, 4 and 6, and its units of kinds 3, 5 and 7.
 #[derive(Clone, Copy, PartialEq, Eq, Debug)]
@@ -40,6 +36,8 @@ impl Standing {
     fn given_lawful(&self) -> bool
         ensures { result ≡ given_lawful self.now }
     {
-        self.bids <= MOST_UNITS && self.segments <= MOST_UNITS && self.invoices <= MOST_UNITS
+        [self.bids, self.segments, self.invoices]
+            .iter()
+            .all(|units| u64::from(*units) <= MOST_UNITS)
     }
 }

@@ -1,16 +1,18 @@
-//! A book that holds units as they are given, and takes every correction.
-ghost use Rattle.std.specs.Prelude.{◌≡◌, true, length, take, MatchResult};
-ghost use Rattle.refusal.specs.Answers.{answer, bare, done};
+//! A book of units as they are given; it takes every correction.
+ghost use Rattle.std.specs.Prelude.{◌≡◌, true, MatchResult};
+ghost use Rattle.refusal.specs.Answers.{answer, bare};
 ghost use Rattle.bottom_books.specs.Given.{given_units};
 ghost use Rattle.bottom_books.specs.Tables.{table_rule};
-ghost use Rattle.bottom_books.specs.Bounds.{given_small};
+ghost use Rattle.bottom_books.specs.Filled.{Filled};
+ghost use Rattle.bottom_books.specs.LawsOfMeasures.{given_small};
 ghost use Rattle.std.proofs.Common.{rules};
 
-use crate::held_book::HeldBook;
 use crate::measure::Measure;
+use crate::measured_book::MeasuredBook;
 use book::asking::new_units;
 use book::book::Correctable;
 use cents::weights::each_at_most;
+use limits::MOST_UNITS;
 use refusal::Fault;
 
 /// Units as they are given.
@@ -23,24 +25,26 @@ impl Measure<[u32; 7]> for GivenUnits {
     ghost small = { λ x row units e k. given_small row units e k };
 
     fn read(&self, row: &[u32; 7]) -> Option<[u32; 7]> {
-        each_at_most(*row, 2_000_000_000).then_some(*row)
+        each_at_most(*row, MOST_UNITS as u32).then_some(*row)
     }
 }
 
-/// A month's units, held as they are.
-pub type TableBook = HeldBook<GivenUnits>;
+/// A month's units, as they are given.
+pub type TableBook = MeasuredBook<GivenUnits>;
 
-impl HeldBook<GivenUnits> {
+impl MeasuredBook<GivenUnits> {
     /// Makes the book of a month from rows of units; refused, it stays as it was.
     pub fn fill(&mut self, month: u32, rows: &[[u32; 7]]) -> Result<(), Fault>
-        ensures told { answer result ≡ bare (table_rule given_units month rows.now) }
-        ensures after { MatchResult result (λ _. (self.new.units.month ≡ month) × (self.new.units.count ≡ length rows.now) × (table_rule given_units month rows.now ≡ done (take (length rows.now) self.new.units.rows))) (λ _. self.new ≡ self.old) }
+        ensures answered { answer result ≡ bare (table_rule given_units month rows.now) }
+        ensures after { MatchResult result
+            (λ _. Filled self.new.units month rows.now (table_rule given_units month rows.now))
+            (λ _. self.new ≡ self.old) }
     {
         self.units.fill(month, &GivenUnits, rows)
     }
 }
 
-impl Correctable for HeldBook<GivenUnits> {
+impl Correctable for MeasuredBook<GivenUnits> {
     ghost takes = { λ _ _ _. true };
 
     ghost keeps = { λ _ _ _. true };

@@ -1,4 +1,4 @@
--- What a test that gives a value or nothing tells of the test.
+-- A test that gives a value or nothing: what it gave says how the test came out.
 use Rattle.std.proofs.Common.{◌≡◌, Bool, true, false, cond, Some, None, sym, ◌∙◌}
 use Rattle.std.proofs.lemmas.Bool.{cond-true, false_from_ne_true}
 use Rattle.std.proofs.lemmas.Option.{none-some, cond_some as cond_some_turned}

@@ -44,7 +44,7 @@ down_largest a b h =
 pub nearest_is : {x y : ℤ} (a q : ℤ) (b : ℕ) → q ≡ int_div_euclid x y → 0 < b → x ≡ (pos 2 *ℤ a) +ℤ pos b → y ≡ pos (2 * b) → q ≡ round_nearest a b
 nearest_is a q b d h e f = d ∙ rw (e, f) (down_is ((pos 2 *ℤ a) +ℤ pos b) (2 * b) (omega arith))
 
--- the part of a product that is no remainder tells the factor
+-- a quotient is fixed by its product and a remainder
 apart : (p q b r s : ℕ) → r < b → s < b → b * p + r ≡ b * q + s → p ≤ q
 apart p q b r s hr hs e = below q p b (omega arith)
 
@@ -64,3 +64,7 @@ pub down_unique : (a q : ℤ) (b r : ℕ) → r < b → a ≡ (pos b *ℤ q) +�
 down_unique a q b r h e =
     let l = down_left a b (omega arith) in
     same_quotient (round_down a b) q b l.0 r l.1 h (sym l.2 ∙ e)
+
+-- any number times 0 rounds to 0
+pub nearest_none : (b : ℕ) (z : ℤ) → 0 < b → round_nearest (z *ℤ pos 0) b ≡ pos 0
+nearest_none b z h = down_unique ((pos 2 *ℤ (z *ℤ pos 0)) +ℤ pos b) (pos 0) (2 * b) b (omega arith) (omega (arith, ints))

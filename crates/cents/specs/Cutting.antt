@@ -18,7 +18,8 @@ parts_from amount whole run (w ∷ ws) = (taken amount whole (run + w) -ℤ take
 -- the same, where a running sum above the whole counts as the whole
 abbrev pub parts_up_to : ℤ → ℕ → ℕ → List ℕ → List ℤ
 parts_up_to amount whole run [] = []
-parts_up_to amount whole run (w ∷ ws) = (taken amount whole (min (run + w) whole) -ℤ taken amount whole (min run whole)) ∷ parts_up_to amount whole (run + w) ws
+parts_up_to amount whole run (w ∷ ws) =
+    (taken amount whole (min (run + w) whole) -ℤ taken amount whole (min run whole)) ∷ parts_up_to amount whole (run + w) ws
 
 -- the parts of an amount, by weights whose sum is the whole
 abbrev pub cut : ℤ → List ℕ → List ℤ

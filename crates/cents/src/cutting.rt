@@ -5,12 +5,7 @@ ghost use Rattle.cents.specs.Rounding.{Inside};
 
 use crate::rounding::down;
 use crate::weights::total;
-
-/// No larger amount, on either side of 0, is cut in 64 bits.
-const MOST_AMOUNT: u64 = 4_000_000_000;
-
-/// No larger whole is cut in 64 bits: the product of both fits.
-const MOST_WHOLE: u64 = 2_000_000_000;
+use limits::{MOST_CENTS, MOST_UNITS};
 
 /// What the weights up to a running sum take of the amount, rounded down. A running sum above the
 /// whole counts as the whole.
@@ -25,13 +20,14 @@ pub fn taken(amount: i64, run: u64, whole: u64) -> i64
     }
 }
 
-/// The same for a running sum of at most the whole, where amount and whole are small enough: such a
-/// division is much the faster. None where one is not, or the whole is 0.
+/// The same for a running sum of at most the whole, where the amount is no more than a pool may be and the
+/// whole no more than units may be: their product fits 64 bits, in which a division is much the faster.
+/// None where one is more, or the whole is 0.
 fn taken_in_64_bits(amount: i64, run: u64, whole: u64) -> Option<i64>
     requires { run ≤ whole }
     ensures { IfSome result (λ cents. cents ≡ taken amount whole run) }
 {
-    if whole == 0 || amount.unsigned_abs() > MOST_AMOUNT || whole > MOST_WHOLE {
+    if whole == 0 || amount.unsigned_abs() > MOST_CENTS || whole > MOST_UNITS {
         return None;
     }
     Some((amount * run as i64).div_euclid(whole as i64))
@@ -49,7 +45,6 @@ pub fn split(amount: i64, whole: u64, weights: &[u32], out: &mut [i64])
     }
     let mut run = 0u64;
     let mut before = 0i64;
-    // By its place: an adapter of iter_mut tells nothing of what was written.
     for (i, weight) in weights.iter().enumerate() {
         run = run.saturating_add(u64::from(*weight));
         let upto = taken(amount, run, whole);

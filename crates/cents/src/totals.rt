@@ -7,7 +7,6 @@ pub fn sum_of(amounts: &[i64]) -> i128
     ensures sum { result ≡ sum_z amounts.now }
     ensures small { unsigned_abs result ≤ 2 ^ 63 * length amounts.now }
 {
-    // A loop and not a `fold`: each sum so far is bounded by how many amounts it has
     let mut sum = 0i128;
     for amount in amounts {
         sum += i128::from(*amount);

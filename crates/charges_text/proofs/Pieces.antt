@@ -2,7 +2,7 @@
 use Rattle.std.proofs.Common.{◌≡◌, ℕ, ◌+◌, ◌<◌, List, [], ◌∷◌, ◌++◌, length, get_or, take, arith}
 use Rattle.std.proofs.lemmas.Grind.{common_steps}
 use Rattle.std.proofs.lemmas.List.{take_more, length-take}
-use Rattle.charges_text.specs.declared.charges.ComponentCharge.{ComponentCharge}
+use Rattle.statement.specs.declared.charge.ComponentCharge.{ComponentCharge}
 use Rattle.charges_text.specs.Printed.{component_line, component_lines}
 
 lines_push : (number : ℕ) (cs : List ComponentCharge) (c : ComponentCharge) → component_lines number (cs ++ c ∷ []) ≡ component_lines number cs ++ component_line (number + length cs) c

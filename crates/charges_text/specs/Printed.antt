@@ -3,18 +3,19 @@ use Rattle.std.specs.Prelude.{ℕ, List, ◌++◌, ℤ, codes, decimal}
 use Rattle.std.specs.Fmt.{signed_decimal}
 use Rattle.std.specs.List.{flat_map, enumerate_from}
 use Rattle.cents.specs.Cutting.{sum_z}
-use Rattle.charges_text.specs.declared.charges.ComponentCharge.{ComponentCharge}
+use Rattle.statement.specs.declared.charge.ComponentCharge.{ComponentCharge}
 use Rattle.charges_text.specs.declared.charges.MemberCharge.{MemberCharge}
 
 abbrev pub month_line : ℕ → List ℕ
 month_line month = codes "month=" ++ (decimal month ++ codes "\n")
 
--- a component's pool, units and balance
-abbrev pub component_fields : ComponentCharge → List ℕ
-component_fields c = signed_decimal c.pool ++ (codes "," ++ (decimal c.units ++ (codes "," ++ signed_decimal c.balance)))
-
+-- a component's number, pool, units and balance
 abbrev pub component_line : ℕ → ComponentCharge → List ℕ
-component_line number c = codes "component=" ++ (decimal number ++ (codes "," ++ (component_fields c ++ codes "\n")))
+component_line number c =
+    codes "component=" ++ (decimal number
+    ++ (codes "," ++ (signed_decimal c.pool
+    ++ (codes "," ++ (decimal c.units
+    ++ (codes "," ++ (signed_decimal c.balance ++ codes "\n")))))))
 
 -- the components in their order, the first by the given number
 abbrev pub component_lines : ℕ → List ComponentCharge → List ℕ

@@ -1,12 +1,4 @@
-//! A month's charges, as they are printed.
-
-/// One component's pool, the units that shared it, and the balance that it leaves.
-#[derive(Clone, Copy)]
-pub struct ComponentCharge {
-    pub pool: i64,
-    pub units: u32,
-    pub balance: i64,
-}
+//! A member's charges of a month, as they are printed.
 
 /// What one member pays for each of the thirteen components.
 #[derive(Clone, Copy)]

@@ -1,24 +1,10 @@
-//! How one charge is printed.
+//! How a member's charges are printed.
 ghost use Rattle.std.specs.Prelude.{Some};
-ghost use Rattle.charges_text.specs.Printed.{component_fields, member_fields};
+ghost use Rattle.charges_text.specs.Printed.{member_fields};
 
-use crate::charges::{ComponentCharge, MemberCharge};
+use crate::charges::MemberCharge;
 use cents::totals::sum_of;
 use std::fmt;
-
-/// A component's pool, units and balance.
-impl fmt::Display for ComponentCharge {
-    ghost output = { λ c. Some (component_fields c) };
-
-    fn fmt<W: fmt::Write>(&self, f: &mut fmt::Formatter<W>) -> fmt::Result {
-        let ComponentCharge {
-            pool,
-            units,
-            balance,
-        } = *self;
-        write!(f, "{pool},{units},{balance}")
-    }
-}
 
 /// A member's account, its charges and their sum.
 impl fmt::Display for MemberCharge {

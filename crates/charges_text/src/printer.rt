@@ -3,7 +3,8 @@ ghost use Rattle.std.specs.Prelude.{◌≡◌, IfOk, Some, string_bytes};
 ghost use Rattle.std.specs.List.{flat_map};
 ghost use Rattle.charges_text.specs.Printed.{component_lines, member_line, printed};
 
-use crate::charges::{ComponentCharge, MemberCharge};
+use crate::charges::MemberCharge;
+use statement::charge::ComponentCharge;
 use std::alloc::{AllocError, Global};
 use std::fmt;
 
@@ -21,7 +22,12 @@ impl fmt::Display for Components {
     fn fmt<W: fmt::Write>(&self, f: &mut fmt::Formatter<W>) -> fmt::Result {
         for (i, charge) in self.0.iter().enumerate() {
             let number = i + 1;
-            writeln!(f, "component={number},{charge}")?;
+            let ComponentCharge {
+                pool,
+                units,
+                balance,
+            } = *charge;
+            writeln!(f, "component={number},{pool},{units},{balance}")?;
         }
         Ok(())
     }

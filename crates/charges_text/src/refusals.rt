@@ -16,8 +16,7 @@ fn line_of(fault: Fault) -> u32
     }
 }
 
-/// The refusal's number and line. One `format!`: a type with a Display for it would be longer, as
-/// `Fault` is another crate's.
+/// The refusal's number and line.
 pub fn refusal_text(heap: Global, fault: Fault) -> Result<String, AllocError>
     ensures { IfOk result (λ t. string_bytes t ≡ refusal_line (number fault.refusal) fault.layer fault.place) }
 {

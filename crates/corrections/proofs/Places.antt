@@ -14,8 +14,9 @@ use Rattle.book.specs.Correcting.{same_pair}
 use Rattle.corrections.specs.declared.fixes.Fix.{Fix}
 use Rattle.corrections.specs.declared.fixes.Fixes.{Fixes}
 use Rattle.corrections.specs.Kept.{kept, pairs}
-use Rattle.corrections.specs.Fixes.{Distinct, is_for, pair_of, seek}
+use Rattle.corrections.specs.Fixes.{Distinct, Keeps, is_for, pair_of, seek}
 use Rattle.corrections.specs.Pairs.{among, pairs_with, takes_pair}
+use Rattle.limits.specs.declared.TheConstants.{MOST_PAIRS}
 
 same_pair_equiv : IsEquivalence same_pair
 same_pair_equiv = record { refl = λ p. grind arith; symm = λ p q. grind arith; congr = λ p q r e. grind (arith, common_steps, e) }
@@ -52,10 +53,6 @@ put_list used p list x room l h =
     (λ (q : used ≤ p). grind (arith, common_steps))
     (cases_lt p used)
 
--- two pairs that a third is the same as are the same
-same_pairs : (k m a b c d : ℕ) → same_pair (k, m) (a, b) ≡ true → same_pair (k, m) (c, d) ≡ true → same_pair (c, d) (a, b) ≡ true
-same_pairs k m a b c d s t = grind (arith, common_steps)
-
 module _ (kind member units : ℕ) where
   -- the pair is found with its units, and every other as it was
   seek_placed : (fixes : List Fix) (k m : ℕ) → seek (placed fixes (place_of fixes kind member) (record { pair = record { kind = kind; member = member }; units = units })) k m ≡ cond (same_pair (k, m) (kind, member)) (Some units) (seek fixes k m)
@@ -72,7 +69,7 @@ module _ (kind member units : ℕ) where
       (cases_Bool (is_for k m f)))
       (cases_Bool (is_for kind member f))
 
-  -- the pairs are as they were, or that pair stands after them
+  -- the pairs are as they were, or that pair is after them
   pairs_placed : (fixes : List Fix) → map pair_of (placed fixes (place_of fixes kind member) (record { pair = record { kind = kind; member = member }; units = units })) ≡ pairs_with (map pair_of fixes) (kind, member)
   pairs_placed [] = refl
   pairs_placed (f ∷ fixes) =
@@ -94,19 +91,19 @@ among_place (f ∷ fixes) kind member =
     (λ (t : is_for kind member f ≡ false). rw t (grind (arith, rest)))
     (cases_Bool (is_for kind member f))
 
--- as no pair stands twice, the pairs are as many as the fixes
-pub takes_kept : (s : Fixes) (kind member : ℕ) → takes_pair (pairs s) (kind, member) ≡ (is_some (position (is_for kind member) (kept s)) || nat_lt s.used 64)
+-- as no pair is there twice, the pairs are as many as the fixes
+pub takes_kept : (s : Fixes) (kind member : ℕ) → takes_pair (pairs s) (kind, member) ≡ (is_some (position (is_for kind member) (kept s)) || nat_lt s.used MOST_PAIRS)
 takes_kept s kind member =
     let n : distinct_count same_pair (pairs s) ≡ s.used = distinct_count-from_IsDistinct same_pair_equiv (pairs s) s.distinct ∙ length-map (kept s) pair_of ∙ length-take-le s.used s.list (omega (arith, s.room, s.long)) in
     let a = among_place (kept s) kind member in
     rw (a, n) (grind (arith, common_steps))
 
 -- ---- the fixes after one is put at its pair's place, or after the others
--- its pair is among the pairs and has its units, the others are as they were, and no pair stands twice
+-- its pair is among the pairs and has its units, the others are as they were, and no pair is there twice
 abbrev pub Put : List Fix → List Fix → Fix → Type 0
 Put old new x =
     (map pair_of new ≡ pairs_with (map pair_of old) (pair_of x))
-    × ((k m : ℕ) → seek new k m ≡ cond (same_pair (k, m) (pair_of x)) (Some x.units) (seek old k m))
+    × Keeps old new (pair_of x) x.units
     × Distinct new
 
 pub put_at : (used n p : ℕ) (list : List Fix) (x : Fix) → used ≤ length list → p ≡ place_of (take used list) x.pair.kind x.pair.member → p < length list → n ≡ max used (p + 1)

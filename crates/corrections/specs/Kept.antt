@@ -13,5 +13,5 @@ abbrev pub pairs : Fixes → List (ℕ × ℕ)
 pairs fixes = map pair_of (kept fixes)
 
 -- a pair's units: as corrected, or else as the book below has them
-abbrev pub units_over : Fixes → ℕ → ℕ → ℕ → ℕ
-units_over fixes held kind member = unwrap_or (seek (kept fixes) kind member) held
+abbrev pub units_over : Fixes → (ℕ → ℕ → ℕ) → ℕ → ℕ → ℕ
+units_over fixes units kind member = unwrap_or (seek (kept fixes) kind member) (units kind member)

@@ -1,4 +1,4 @@
 pub mod Pairs
 pub mod Fixes
-pub mod Values
 pub mod Kept
+pub mod LawsOfCorrections

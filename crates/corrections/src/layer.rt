@@ -5,7 +5,7 @@ ghost use Rattle.refusal.specs.Answers.{answer, bare};
 ghost use Rattle.book.specs.Correcting.{correct_rule, corrected_units, kept_after};
 ghost use Rattle.corrections.specs.Kept.{kept, pairs, units_over};
 ghost use Rattle.corrections.specs.Pairs.{among, pairs_with, takes_pair};
-ghost use Rattle.corrections.specs.Values.{kept_small};
+ghost use Rattle.corrections.specs.LawsOfCorrections.{units_small};
 ghost use Rattle.std.proofs.Common.{rules};
 
 use crate::fixes::Fixes;
@@ -39,13 +39,13 @@ impl<B: Book> Book for Corrections<B> {
 
     ghost count = { λ c. B.Book.count c.book };
 
-    ghost held = { λ c kind member. units_over c.fixes (B.Book.held c.book kind member) kind member };
+    ghost units = { λ c. units_over c.fixes (B.Book.units c.book) };
 
-    ghost dated = { Prim.search rules };
+    ghost month_in_range = { Prim.search rules };
 
-    ghost peopled = { Prim.search rules };
+    ghost count_in_range = { Prim.search rules };
 
-    ghost bounded = { λ b kind member. kept_small b.fixes.used b.fixes.list kind member _ b.fixes.small (B.Book.bounded b.book kind member) };
+    ghost units_in_range = { λ c kind member. units_small c.fixes (B.Book.units c.book) kind member (B.Book.units_in_range c.book kind member) };
 
     fn month(&self) -> u32 {
         self.book.month()
@@ -75,13 +75,19 @@ impl<B: Book> Correctable for Corrections<B> {
         self.fixes.takes(Pair { kind, member })
     }
 
-    // The trait's clauses, told of this layer, and two more: which pairs are corrected then, and that
-    // the book below stays.
+    // The trait's clauses for this layer, and two more: which pairs are corrected then, and that the
+    // book below stays.
     fn correct(&mut self, kind: u32, member: u32, amount: i64) -> Result<(), Fault>
-        ensures told { answer result ≡ bare (correct_rule (B.count self.old.book) (units_over self.old.fixes (B.held self.old.book kind member) kind member) (takes_pair (pairs self.old.fixes) (kind, member)) kind member amount) }
-        ensures kept { MatchResult result (λ _. (B.month self.new.book ≡ B.month self.old.book) × (B.count self.new.book ≡ B.count self.old.book)) (λ _. self.new ≡ self.old) }
-        ensures units { OnOk result ((k m : ℕ) → units_over self.new.fixes (B.held self.new.book k m) k m ≡ corrected_units (units_over self.old.fixes (B.held self.old.book k m) k m) amount (k, m) (kind, member)) }
-        ensures taken { OnOk result ((k m : ℕ) → among (pairs self.new.fixes) (k, m) ≡ kept_after (among (pairs self.old.fixes) (k, m)) (k, m) (kind, member)) }
+        ensures answered { let units = units_over self.old.fixes (B.units self.old.book) kind member in
+            let takes = takes_pair (pairs self.old.fixes) (kind, member) in
+            answer result ≡ bare (correct_rule (B.count self.old.book) units takes kind member amount) }
+        ensures kept { MatchResult result
+            (λ _. (B.month self.new.book ≡ B.month self.old.book) × (B.count self.new.book ≡ B.count self.old.book))
+            (λ _. self.new ≡ self.old) }
+        ensures units { OnOk result ((k m : ℕ) → units_over self.new.fixes (B.units self.new.book) k m
+            ≡ corrected_units (units_over self.old.fixes (B.units self.old.book) k m) amount (k, m) (kind, member)) }
+        ensures taken { OnOk result ((k m : ℕ) → among (pairs self.new.fixes) (k, m)
+            ≡ kept_after (among (pairs self.old.fixes) (k, m)) (k, m) (kind, member)) }
         ensures pairs { OnOk result (pairs self.new.fixes ≡ pairs_with (pairs self.old.fixes) (kind, member)) }
         ensures below { self.new.book ≡ self.old.book }
     {

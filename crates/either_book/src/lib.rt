@@ -19,13 +19,13 @@ impl<A: Book, B: Book> Book for EitherBook<A, B> {
 
     ghost count = { λ e. either A.Book.count B.Book.count e };
 
-    ghost held = { λ e kind member. either (λ a. A.Book.held a kind member) (λ b. B.Book.held b kind member) e };
+    ghost units = { λ e kind member. either (λ a. A.Book.units a kind member) (λ b. B.Book.units b kind member) e };
 
-    ghost dated = { Prim.search rules };
+    ghost month_in_range = { Prim.search rules };
 
-    ghost peopled = { Prim.search rules };
+    ghost count_in_range = { Prim.search rules };
 
-    ghost bounded = { Prim.search rules };
+    ghost units_in_range = { Prim.search rules };
 
     fn month(&self) -> u32 {
         match self {

@@ -1,19 +1,19 @@
 //! The rate of a FERC year, in hundredths of a cent for a megawatt-hour.
-ghost use Rattle.std.specs.Prelude.{◌≡◌, ◌≤◌, true, unsigned_abs};
+ghost use Rattle.std.specs.Prelude.{◌≡◌, ◌*◌, ◌≤◌, true, unsigned_abs};
 ghost use Rattle.refusal.specs.Answers.{answer};
 ghost use Rattle.ferc.specs.Rates.{cost_lawful, year_cost, rate_of, figures_rule};
 
 use cents::rounding::nearest;
 use refusal::{Fault, Layer, Refusal};
 
-/// No charge of a year is beyond this, on either side of 0.
-const MOST_CENTS: u64 = 40_000_000_000;
+/// No charge of a year is beyond this, in cents on either side of 0.
+pub const MOST_CHARGE: u64 = 40_000_000_000;
 
 /// No volume of a year is above this, in megawatt-hours.
-const MOST_VOLUME: u64 = 20_000_000_000;
+pub const MOST_VOLUME: u64 = 20_000_000_000;
 
-/// No rate is beyond this, on either side of 0.
-const MOST_RATE: u64 = 1_000_000;
+/// No rate is beyond this, in hundredths of a cent on either side of 0.
+pub const MOST_RATE: u64 = 1_000_000;
 
 /// The figures of a year: this year's estimated charge, the charge paid for the prior year and its
 /// recovery, in cents, and the volume in megawatt-hours.
@@ -27,7 +27,7 @@ pub struct YearFigures {
 
 /// The rate of a cost over a volume.
 fn rate_of(cost: i64, volume: u64) -> i64
-    requires { unsigned_abs cost ≤ 120000000000 }
+    requires { unsigned_abs cost ≤ 3 * MOST_CHARGE }
     ensures { result ≡ rate_of cost volume }
 {
     nearest(100 * cost, volume)
@@ -40,14 +40,14 @@ impl YearFigures {
     {
         [self.estimate, self.paid, self.recovered]
             .iter()
-            .all(|cents| cents.unsigned_abs() <= MOST_CENTS)
+            .all(|cents| cents.unsigned_abs() <= MOST_CHARGE)
     }
 
     /// The cost: this year's estimate, and what was paid for the prior year less its recovery.
     fn cost(&self) -> i64
         requires { cost_lawful self.now.estimate self.now.paid self.now.recovered ≡ true }
         ensures value { result ≡ year_cost self.now.estimate self.now.paid self.now.recovered }
-        ensures small { unsigned_abs result ≤ 120000000000 }
+        ensures small { unsigned_abs result ≤ 3 * MOST_CHARGE }
     {
         self.estimate + self.paid - self.recovered
     }

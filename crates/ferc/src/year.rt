@@ -2,6 +2,12 @@
 mod calls;
 
 ghost use Rattle.std.specs.Prelude.{◌≡◌, ◌*◌, ◌≤◌, unsigned_abs};
+ghost use Rattle.limits.specs.declared.TheConstants.{MOST_MEMBERS, MOST_UNITS};
+ghost use Rattle.ferc.specs.declared.rate.TheConstants.{MOST_RATE};
+ghost use Rattle.ferc.specs.declared.year.TheConstants.{MOST_MONTHS};
+
+/// How many months a year bills.
+pub const MOST_MONTHS: u32 = 12;
 
 /// A year. It bills at most twelve months, and is one value: a copy would bill twelve more, so it
 /// cannot be copied.
@@ -10,9 +16,9 @@ pub struct FercYear {
     rate: i64,
     months: u32,
     billed: i64,
-    ghost rated: { unsigned_abs rate ≤ 1000000 },
-    ghost few: { months ≤ 12 },
-    ghost small: { unsigned_abs billed ≤ 400000000000000000 * months },
+    ghost rated: { unsigned_abs rate ≤ MOST_RATE },
+    ghost few: { months ≤ MOST_MONTHS },
+    ghost small: { unsigned_abs billed ≤ MOST_MEMBERS * (MOST_RATE * MOST_UNITS) * months },
 }
 
 impl FercYear {

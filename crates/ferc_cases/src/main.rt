@@ -9,7 +9,7 @@ use std::io;
 
 /// Prints whether a call was accepted. The test program of the books has this function too: a crate
 /// for these lines alone would be longer than both.
-fn told(rt: &HostRuntime, name: &str, answer: Result<(), Fault>) -> io::Result<()> {
+fn print_answer(rt: &HostRuntime, name: &str, answer: Result<(), Fault>) -> io::Result<()> {
     match answer {
         Ok(()) => println!(rt; "{name}: accepted"),
         Err(fault) => {
@@ -19,7 +19,7 @@ fn told(rt: &HostRuntime, name: &str, answer: Result<(), Fault>) -> io::Result<(
     }
 }
 
-/// Prints what a year tells of itself.
+/// Prints a year's rate, its months and its cents billed.
 fn show(rt: &HostRuntime, year: &FercYear) -> io::Result<()> {
     let rate = year.rate();
     let months = year.months();
@@ -41,7 +41,7 @@ fn month(rt: &HostRuntime, year: &mut FercYear, first: u32, second: u32) -> io::
     let answer = year.bill(&hours(first, second), &mut cells);
     let [a, b] = cells;
     println!(rt; "{first} and {second} MWh: {a} and {b}")?;
-    told(rt, "month", answer)
+    print_answer(rt, "month", answer)
 }
 
 /// Makes a year of these figures and prints whether it was accepted.
@@ -58,7 +58,7 @@ fn made(
         recovered,
         volume,
     };
-    told(rt, name, year.make(figures))
+    print_answer(rt, name, year.make(figures))
 }
 
 /// The ranges, the volume and the rate; refused, the year is as it was.
@@ -100,12 +100,12 @@ fn twelve(rt: &HostRuntime, year: &mut FercYear) -> io::Result<()> {
     month(rt, year, 150, 0)?;
     let mut cells = [5i64; 2];
     let mut three = [5i64; 3];
-    told(rt, "three cells", year.bill(&hours(1, 1), &mut three))?;
+    print_answer(rt, "three cells", year.bill(&hours(1, 1), &mut three))?;
     for _ in 0..11 {
         again(year);
     }
     show(rt, year)?;
-    told(rt, "a 13th month", year.bill(&hours(1, 1), &mut cells))?;
+    print_answer(rt, "a 13th month", year.bill(&hours(1, 1), &mut cells))?;
     show(rt, year)
 }
 

@@ -3,9 +3,9 @@ use Rattle.std.proofs.Common.{◌≡◌, ℕ, ◌<◌, ◌&&◌, cond, eqb, List
 use Rattle.cents.specs.Cutting.{sum_z}
 use Rattle.tariff.specs.Heads.{at, sums}
 use Rattle.ledger.specs.Readings.{Reading, units_read}
-use Rattle.ledger.specs.Standings.{Standing}
+use Rattle.ledger.specs.States.{LedgerState}
 use Rattle.ledger.specs.Billing.{Cut}
-use Rattle.ledger.specs.Histories.{History, booked, billed, resettled, cents_booked, cents_billed, row_of, billed_of, waiting, cost_of, pool_of, units_of, cents_of, months_billed}
+use Rattle.ledger.specs.Histories.{History, booked, billed, resettled, cents_booked, cents_billed, component_cells, billed_of, waiting, cost_of, pool_of, units_last_read, cents_of, months_billed}
 use Rattle.ledger.specs.Kept.{Terms, OnFile, Promise, Invariant}
 use Rattle.journal_run.specs.Meanings.{by_rows}
 use Rattle.journal_run.proofs.Rows.{units_same}
@@ -17,7 +17,7 @@ pub record Figures (g h : History) : Type 0 where
   pub waiting_same : waiting g ≡ waiting h
   pub cost_same : (cut : Cut) (c : ℕ) → cost_of cut c g ≡ cost_of cut c h
   pub pool_same : (cut : Cut) (k c : ℕ) → pool_of cut k c g ≡ pool_of cut k c h
-  pub units_last : (k c : ℕ) → units_of k c g ≡ units_of k c h
+  pub units_last : (k c : ℕ) → units_last_read k c g ≡ units_last_read k c h
   pub cents_same : (k c m : ℕ) → cents_of k c m g ≡ cents_of k c m h
   pub months_same : months_billed g ≡ months_billed h
 
@@ -54,12 +54,12 @@ module _ (g h : History) (f : Figures g h) where
       record {
         booked_same = f.booked_same;
         billed_same = ap (λ (z : ℤ). sum_z cells +ℤ z) f.billed_same;
-        each_same = λ c. ap (λ (z : ℤ). sum_z (row_of b cells c) +ℤ z) (f.each_same c);
+        each_same = λ c. ap (λ (z : ℤ). sum_z (component_cells b cells c) +ℤ z) (f.each_same c);
         waiting_same = refl;
         cost_same = costs;
         pool_same = λ cut k c. rw (f.waiting_same, f.cost_same cut c, f.each_same c, f.pool_same cut k c) refl;
-        units_last = λ k c. ap (λ (us : List ℕ). cond (eqb b.month k) us (units_of k c g)) (units_same b c) ∙ ap (λ (us : List ℕ). cond (eqb b.month k) (units_read b c) us) (f.units_last k c);
-        cents_same = λ k c m. ap (λ (z : ℤ). cond (eqb b.month k) (at (row_of b cells c) m) (pos 0) +ℤ z) (f.cents_same k c m);
+        units_last = λ k c. ap (λ (us : List ℕ). cond (eqb b.month k) us (units_last_read k c g)) (units_same b c) ∙ ap (λ (us : List ℕ). cond (eqb b.month k) (units_read b c) us) (f.units_last k c);
+        cents_same = λ k c m. ap (λ (z : ℤ). cond (eqb b.month k) (at (component_cells b cells c) m) (pos 0) +ℤ z) (f.cents_same k c m);
         months_same = ap (λ (ms : List ℕ). b.month ∷ ms) f.months_same;
       }
 
@@ -71,7 +71,7 @@ module _ (g h : History) (f : Figures g h) where
     waiting_same = f.waiting_same;
     cost_same = f.cost_same;
     pool_same = f.pool_same;
-    units_last = λ k c. ap (λ (us : List ℕ). cond (eqb b.month k && eqb d c) us (units_of k c g)) (units_same b c) ∙ ap (λ (us : List ℕ). cond (eqb b.month k && eqb d c) (units_read b c) us) (f.units_last k c);
+    units_last = λ k c. ap (λ (us : List ℕ). cond (eqb b.month k && eqb d c) us (units_last_read k c g)) (units_same b c) ∙ ap (λ (us : List ℕ). cond (eqb b.month k && eqb d c) (units_read b c) us) (f.units_last k c);
     cents_same = λ k c m. ap (λ (z : ℤ). cond (eqb b.month k && eqb d c) (at cells m) (pos 0) +ℤ z) (f.cents_same k c m);
     months_same = f.months_same;
   }
@@ -80,7 +80,7 @@ module _ (g h : History) (f : Figures g h) where
   on_file_same t k o = rw f.months_same at o
 
   -- so what is promised of the one is promised of the other
-  pub promise_same : (t : Terms) (s : Standing) → Promise t h s → Promise t g s
+  pub promise_same : (t : Terms) (s : LedgerState) → Promise t h s → Promise t g s
   promise_same t s p =
       record {
         adds_up = rw (f.booked_same, f.billed_same) p.adds_up;
@@ -92,13 +92,13 @@ module _ (g h : History) (f : Figures g h) where
         line = λ k c m o lc lm. rw (f.cents_same k c m, f.units_last k c) (p.line k c m (on_file_same t k o) lc lm);
       }
 
-  pub invariant_same : (t : Terms) (s : Standing) → Invariant t h s → Invariant t g s
+  pub invariant_same : (t : Terms) (s : LedgerState) → Invariant t h s → Invariant t g s
   invariant_same t s i =
       record {
         months = rw f.months_same i.months;
         current = rw f.months_same i.current;
         begun = i.begun;
-        peopled = i.peopled;
+        members = i.members;
         pool = λ k c o lc. i.pool k c (on_file_same t k o) lc ∙ sym (f.pool_same t.cut k c);
         pool_small = λ k c o lc. rw (f.pool_same t.cut k c) (i.pool_small k c (on_file_same t k o) lc);
         units_small = λ k c o lc. rw (f.units_last k c) (i.units_small k c (on_file_same t k o) lc);

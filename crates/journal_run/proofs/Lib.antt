@@ -5,9 +5,9 @@ pub mod Differences
 pub mod Ended
 pub mod Figures
 pub mod Giving
-pub mod Held
+pub mod Unbilled
 pub mod Joined
-pub mod Owners
+pub mod Entries
 pub mod Pairs
 pub mod Progress
 pub mod Rows

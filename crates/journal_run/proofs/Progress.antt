@@ -1,48 +1,46 @@
 -- Text and sums of all orders, and of one order more.
-use Rattle.std.proofs.Common.{◌≡◌, ℕ, zero, suc, ◌+◌, ◌*◌, ◌<◌, ◌≤◌, List, [], ◌∷◌, ◌++◌, map, length, get_or, take, drop, ℤ, pos, ◌+ℤ◌, Result, append_assoc, append-nil, sym, refl, ap, ◌∙◌, arith}
+use Rattle.std.proofs.Common.{◌≡◌, ℕ, zero, suc, ◌+◌, ◌*◌, ◌<◌, ◌≤◌, List, [], ◌∷◌, ◌++◌, length, get_or, take, drop, ℤ, pos, ◌+ℤ◌, Result, append_assoc, append-nil, sym, refl, ap, ◌∙◌, arith}
 use borrow.Author.Differences.{ints}
 use Rattle.std.specs.Borrow.{Bor}
 use Rattle.std.proofs.lemmas.List.{drop-drop, get_or-map}
 use Rattle.refusal.specs.declared.Fault.{Fault}
-use Rattle.month_text.specs.declared.month.RuleName.TheVariants as rule
+use Rattle.sharing.specs.declared.name.RuleName.TheVariants as rule
 use Rattle.journal_text.specs.declared.entry.Action.TheVariants as action
 use Rattle.journal_text.specs.declared.entry.Entry.{Entry}
 use Rattle.ledger.specs.Files.{part}
 use Rattle.runs.specs.declared.done.Done.{Done}
 use Rattle.journal_run.specs.Outcomes.{outcome_text, booked_by, billed_by}
-use Rattle.journal_run.specs.Handed.{Few}
+use Rattle.journal_run.specs.JournalRuns.{CountsInRange}
+use Rattle.journal_run.specs.Meanings.{entries_at}
+use Rattle.limits.specs.declared.TheConstants.{MOST_TEXT_MEMBERS}
 
 -- what is printed of all orders, each with the next `width` cells for its statement
 abbrev pub outcomes_text : ℕ → List Entry → List (Result Done Fault) → List ℤ → List ℕ
 outcomes_text width [] outcomes cells = []
-outcomes_text width (e ∷ owners) [] cells = []
-outcomes_text width (e ∷ owners) (o ∷ outcomes) cells =
-    outcome_text e o (take width cells) ++ outcomes_text width owners outcomes (drop width cells)
+outcomes_text width (e ∷ entries) [] cells = []
+outcomes_text width (e ∷ entries) (o ∷ outcomes) cells =
+    outcome_text e o (take width cells) ++ outcomes_text width entries outcomes (drop width cells)
 
 abbrev pub outcomes_booked : List Entry → List (Result Done Fault) → ℤ
 outcomes_booked [] outcomes = pos 0
-outcomes_booked (e ∷ owners) [] = pos 0
-outcomes_booked (e ∷ owners) (o ∷ outcomes) = booked_by e o +ℤ outcomes_booked owners outcomes
+outcomes_booked (e ∷ entries) [] = pos 0
+outcomes_booked (e ∷ entries) (o ∷ outcomes) = booked_by e o +ℤ outcomes_booked entries outcomes
 
 abbrev pub outcomes_billed : ℕ → List Entry → List (Result Done Fault) → List ℤ → ℤ
 outcomes_billed width [] outcomes cells = pos 0
-outcomes_billed width (e ∷ owners) [] cells = pos 0
-outcomes_billed width (e ∷ owners) (o ∷ outcomes) cells =
-    billed_by e o (take width cells) +ℤ outcomes_billed width owners outcomes (drop width cells)
+outcomes_billed width (e ∷ entries) [] cells = pos 0
+outcomes_billed width (e ∷ entries) (o ∷ outcomes) cells =
+    billed_by e o (take width cells) +ℤ outcomes_billed width entries outcomes (drop width cells)
 
 -- an entry of no month
 abbrev pub no_entry : Entry
 no_entry = record { action = action.Bill; line = 0; month = record { month = 0; rule = rule.Posted; sheet = record { division = []; management = []; split = [] }; cost = []; control = pos 0; count = 0; members = [] } }
 
-abbrev pub no_owner : Bor Entry
-no_owner = record { ref_ptr = (0, 0); now = no_entry }
+abbrev pub no_entry_at : Bor Entry
+no_entry_at = record { ref_ptr = (0, 0); now = no_entry }
 
--- the entries that owners point to
-abbrev pub entries_at : List (Bor Entry) → List Entry
-entries_at owners = map (λ (e : Bor Entry). e.now) owners
-
-pub entry_at : (owners : List (Bor Entry)) (i : ℕ) → i < length owners → get_or (entries_at owners) i no_entry ≡ (get_or owners i no_owner).now
-entry_at owners i h = get_or-map (λ (e : Bor Entry). e.now) owners i no_owner no_entry h
+pub entry_at : (entries : List (Bor Entry)) (i : ℕ) → i < length entries → get_or (entries_at entries) i no_entry ≡ (get_or entries i no_entry_at).now
+entry_at entries i h = get_or-map (λ (e : Bor Entry). e.now) entries i no_entry_at no_entry h
 
 -- the cells of an order stand behind those of the first one
 pub part_behind : (w i : ℕ) (cells : List ℤ) → part (i * w) w (drop w cells) ≡ part (suc i * w) w cells
@@ -84,7 +82,7 @@ module _ (w : ℕ) (e₀ : Entry) (o₀ : Result Done Fault) where
       let r = billed_more es os (drop w cells) i (omega arith) (omega arith) in
       rw (n, ← part_behind w i cells) (omega (arith, ints, r))
 
-pub few_at : (es : List Entry) (i : ℕ) (d : Entry) → Few es → i < length es → (get_or es i d).month.count ≤ 32
-few_at [] i d f h = absurd (omega arith)
-few_at (e ∷ es) zero d f h = f.0
-few_at (e ∷ es) (suc i) d f h = few_at es i d f.1 (omega arith)
+pub count_at : (es : List Entry) (i : ℕ) (d : Entry) → CountsInRange es → i < length es → (get_or es i d).month.count ≤ MOST_TEXT_MEMBERS
+count_at [] i d f h = absurd (omega arith)
+count_at (e ∷ es) zero d f h = f.0
+count_at (e ∷ es) (suc i) d f h = count_at es i d f.1 (omega arith)

@@ -3,5 +3,5 @@ pub mod Meanings
 pub mod Runs
 pub mod Printed
 pub mod Outcomes
-pub mod Handed
+pub mod JournalRuns
 pub mod Journals

@@ -56,9 +56,9 @@ abbrev pub billed_by : Entry → Result Done Fault → List ℤ → ℤ
 billed_by e (Ok ended) cells = done_billed e ended cells
 billed_by e (Err f) cells = pos 0
 
--- every cent booked was billed, or is held: in a balance, or waiting
+-- every cent booked was billed, or is unbilled yet: in a balance, or waiting
 abbrev pub agrees : ℤ → ℤ → ℤ → Bool
-agrees booked billed held = unsigned_abs (billed +ℤ held -ℤ booked) == 0
+agrees booked billed unbilled = unsigned_abs (billed +ℤ unbilled -ℤ booked) == 0
 
 abbrev pub yes_or_no : Bool → List ℕ
 yes_or_no agree = cond agree (codes "yes") (codes "no")

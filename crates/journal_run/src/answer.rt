@@ -4,7 +4,7 @@ ghost use Rattle.std.specs.List.{All};
 ghost use Rattle.refusal.specs.Answers.{done, bare};
 ghost use Rattle.month_text.specs.Accepted.{InRange};
 ghost use Rattle.journal_text.specs.Answered.{Answered};
-ghost use Rattle.journal_run.specs.Journals.{entries_text, journal_text, RunOnceRead, answer_text};
+ghost use Rattle.journal_run.specs.Journals.{entries_text, run_journal, RunOnceRead, journal_answer};
 
 use crate::orders::journal_orders;
 use crate::running::run_orders;
@@ -15,9 +15,9 @@ use journal_text::reader::read_journal;
 use journal_text::unread::Unread;
 use std::alloc::{AllocError, Global};
 
-/// Runs the orders of all entries on a ledger that the first month opens, and prints last.
+/// Runs the orders of all entries on a ledger that the first month opens, and then prints.
 fn entries_text(heap: Global, entries: &[Entry]) -> Result<String, Unread>
-    ensures told { Answered (λ text. string_bytes text) result (entries_text entries.now) }
+    ensures answered { Answered (λ lines. string_bytes lines) result (entries_text entries.now) }
     ensures run { All (λ entry. InRange entry.month) entries.now → bare (entries_text entries.now) ≡ done tt }
 {
     let Some(first) = entries.first() else {
@@ -30,7 +30,7 @@ fn entries_text(heap: Global, entries: &[Entry]) -> Result<String, Unread>
 
 /// Reads all entries, and runs their orders.
 fn run_journal(heap: Global, text: &[u8]) -> Result<String, Unread>
-    ensures told { Answered (λ said. string_bytes said) result (journal_text text.now) }
+    ensures answered { Answered (λ lines. string_bytes lines) result (run_journal text.now) }
     ensures run { RunOnceRead text.now }
 {
     let entries = read_journal(heap, text)?;
@@ -39,7 +39,7 @@ fn run_journal(heap: Global, text: &[u8]) -> Result<String, Unread>
 
 /// What a journal came to, or the line of its refusal.
 pub fn answer(heap: Global, text: &[u8]) -> Result<String, AllocError>
-    ensures told { IfOk result (λ said. string_bytes said ≡ answer_text text.now) }
+    ensures answered { IfOk result (λ lines. string_bytes lines ≡ journal_answer text.now) }
     ensures run { RunOnceRead text.now }
 {
     match run_journal(heap, text) {

@@ -1,6 +1,6 @@
 //! The orders that are given so far.
-ghost use Rattle.std.specs.Prelude.{◌≡◌, [], ◌∷◌, ◌++◌, length, MatchResult, OnOk};
-ghost use Rattle.journal_run.specs.Meanings.{meant, ordered};
+ghost use Rattle.std.specs.Prelude.{◌≡◌, [], ◌∷◌, ◌++◌, length, IfErr, OnOk};
+ghost use Rattle.journal_run.specs.Meanings.{given_orders, order_deed};
 
 use bottom_books::fact_book::FactBook;
 use journal_text::entry::Entry;
@@ -8,7 +8,7 @@ use journal_text::unread::Unread;
 use runs::order::Order;
 use std::alloc::Global;
 
-/// Orders, and at the same place the entry that gave each: a run takes a slice of orders alone.
+/// Orders, and at the same place the entry that gave each.
 #[derive(Drop)]
 pub(crate) struct Given<'a> {
     pub entries: Vec<&'a Entry>,
@@ -18,7 +18,7 @@ pub(crate) struct Given<'a> {
 impl<'a> Given<'a> {
     /// No orders.
     pub(crate) fn new(heap: Global) -> Given<'a>
-        ensures told { ordered result.entries.items result.orders.items ≡ [] }
+        ensures given { given_orders result ≡ [] }
         ensures paired { length result.entries.items ≡ length result.orders.items }
     {
         Given {
@@ -30,7 +30,8 @@ impl<'a> Given<'a> {
     /// One order more.
     pub(crate) fn push(&mut self, entry: &'a Entry, order: Order<FactBook>) -> Result<(), Unread>
         requires { length self.old.entries.items ≡ length self.old.orders.items }
-        ensures told { MatchResult result (λ _. ordered self.new.entries.items self.new.orders.items ≡ ordered self.old.entries.items self.old.orders.items ++ (entry.now, meant order) ∷ []) (λ e. e ≡ Unread.Memory) }
+        ensures given { OnOk result (given_orders self.new ≡ given_orders self.old ++ (entry.now, order_deed order) ∷ []) }
+        ensures memory { IfErr result (λ e. e ≡ Unread.Memory) }
         ensures paired { OnOk result (length self.new.entries.items ≡ length self.new.orders.items) }
     {
         self.entries.push(entry)?;

@@ -5,6 +5,7 @@ pub mod answer;
 mod given;
 mod orders;
 mod printing;
+mod run_result;
 mod running;
 mod sums;
 mod text;

@@ -1,10 +1,8 @@
 //! The orders that a journal's entries give.
-ghost use Rattle.std.specs.Prelude.{◌≡◌, ◌++◌, length, IfOk, OnOk};
-ghost use Rattle.refusal.specs.Answers.{done, next};
-ghost use Rattle.month_bill.specs.Members.{month_units};
+ghost use Rattle.std.specs.Prelude.{◌≡◌, length, IfOk, OnOk};
 ghost use Rattle.journal_text.specs.Answered.{Answered};
-ghost use Rattle.journal_run.specs.Deeds.{given_by, orders_of};
-ghost use Rattle.journal_run.specs.Meanings.{ordered};
+ghost use Rattle.journal_run.specs.Deeds.{orders_of, orders_with};
+ghost use Rattle.journal_run.specs.Meanings.{given_orders};
 
 use crate::given::Given;
 use journal_text::entry::{Action, Entry};
@@ -16,7 +14,7 @@ use std::alloc::Global;
 /// A bill books its costs first; the costs of a resettlement were booked with their bill.
 fn give_orders<'a>(entry: &'a Entry, given: &mut Given<'a>) -> Result<(), Unread>
     requires { length given.old.entries.items ≡ length given.old.orders.items }
-    ensures told { Answered (λ _. ordered given.new.entries.items given.new.orders.items) result (next (month_units entry.now.month) (λ rows. done (ordered given.old.entries.items given.old.orders.items ++ given_by entry.now rows))) }
+    ensures answered { Answered (λ _. given_orders given.new) result (orders_with (given_orders given.old) entry.now) }
     ensures paired { OnOk result (length given.new.entries.items ≡ length given.new.orders.items) }
 {
     let book = month_book(&entry.month)?;
@@ -33,7 +31,7 @@ fn give_orders<'a>(entry: &'a Entry, given: &mut Given<'a>) -> Result<(), Unread
 
 /// The orders of all entries, each beside the entry that gives it.
 pub(crate) fn journal_orders(heap: Global, entries: &[Entry]) -> Result<Given<'_>, Unread>
-    ensures told { Answered (λ given. ordered given.entries.items given.orders.items) result (orders_of entries.now) }
+    ensures answered { Answered given_orders result (orders_of entries.now) }
     ensures paired { IfOk result (λ given. length given.entries.items ≡ length given.orders.items) }
 {
     let mut given = Given::new(heap);

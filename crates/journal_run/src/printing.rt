@@ -3,8 +3,8 @@ ghost use Rattle.std.specs.Prelude.{◌≡◌, ◌≤◌, IfOk, Some, string_byt
 ghost use Rattle.charges_text.specs.Printed.{printed};
 ghost use Rattle.month_bill.specs.Members.{member_rows};
 ghost use Rattle.journal_run.specs.Outcomes.{members_of, resettled_text, outcome_text};
+ghost use Rattle.limits.specs.declared.TheConstants.{MOST_TEXT_MEMBERS};
 
-use charges_text::charges::ComponentCharge;
 use charges_text::printer::charges_text;
 use charges_text::refusals::refusal_text;
 use journal_text::entry::{Action, Entry};
@@ -12,6 +12,7 @@ use month_bill::members::member_rows;
 use month_text::month::{Member, Month};
 use refusal::Fault;
 use runs::done::Done;
+use statement::charge::ComponentCharge;
 use std::alloc::{AllocError, Global};
 use std::fmt;
 
@@ -22,7 +23,7 @@ fn bill_text(
     components: [ComponentCharge; 13],
     statement: &[i64],
 ) -> Result<String, AllocError>
-    requires { month.now.count ≤ 32 }
+    requires { month.now.count ≤ MOST_TEXT_MEMBERS }
     ensures { IfOk result (λ t. string_bytes t ≡ printed month.now.month components (member_rows statement.now 0 (members_of month.now))) }
 {
     let rows = member_rows(month.members, statement);
@@ -64,7 +65,7 @@ pub(crate) fn order_text(
     outcome: Result<Done, Fault>,
     cells: &[i64],
 ) -> Result<String, AllocError>
-    requires { entry.now.month.count ≤ 32 }
+    requires { entry.now.month.count ≤ MOST_TEXT_MEMBERS }
     ensures { IfOk result (λ t. string_bytes t ≡ outcome_text entry.now outcome cells.now) }
 {
     let month = &entry.month;

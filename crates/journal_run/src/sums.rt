@@ -34,7 +34,7 @@ fn billed_by(entry: &Entry, outcome: Result<Done, Fault>, cells: &[i64]) -> i128
     }
 }
 
-/// All cents booked, and all cents billed. A journal is too short for either to reach the end of its type.
+/// All cents booked, and all cents billed.
 #[derive(Clone, Copy)]
 pub(crate) struct Sums {
     pub booked: i128,
@@ -56,11 +56,11 @@ impl Sums {
     }
 }
 
-/// Whether every cent booked was billed, or is held.
-fn agrees(booked: i128, billed: i128, held: i128) -> bool
-    ensures { result ≡ agrees booked billed held }
+/// Whether every cent booked was billed, or is unbilled yet.
+fn agrees(booked: i128, billed: i128, unbilled: i128) -> bool
+    ensures { result ≡ agrees booked billed unbilled }
 {
-    match billed.checked_add(held) {
+    match billed.checked_add(unbilled) {
         Some(found) => found == booked,
         None => false,
     }
@@ -73,16 +73,16 @@ fn yes_or_no(agree: bool) -> &'static str
     if agree { "yes" } else { "no" }
 }
 
-/// The account of a run: what was booked and billed, what the balances hold, and what waits.
+/// The account of a run: the cents booked and billed, the balances, and the costs that wait.
 #[derive(Clone, Copy)]
-pub(crate) struct Account {
+pub(crate) struct RunAccount {
     pub sums: Sums,
     pub balances: [i64; 13],
     pub waiting: [i64; 6],
 }
 
 // The last lines: every cent booked was billed, is in a balance, or waits.
-impl fmt::Display for Account {
+impl fmt::Display for RunAccount {
     ghost output = { λ a. Some (account_lines a.sums.booked a.sums.billed a.balances a.waiting) };
 
     fn fmt<W: fmt::Write>(&self, f: &mut fmt::Formatter<W>) -> fmt::Result {

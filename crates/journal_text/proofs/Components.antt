@@ -1,8 +1,9 @@
 -- Texts that are no component: a zero before more digits, and more than three digits.
 use Rattle.std.proofs.Common.{◌≡◌, ℕ, ◌+◌, ◌-◌, ◌*◌, ◌<◌, ◌≤◌, Bool, true, false, cond, ◌&&◌, List, [], ◌∷◌, length, get_or, take, Some, None, Option, refl, arith}
 use Rattle.std.proofs.lemmas.Bool.Decides.{nat_tests}
-use Rattle.std.specs.Prelude.{nat_eq, nat_lt, bytes_eq}
+use Rattle.std.specs.Prelude.{nat_eq, nat_le, nat_lt, bytes_eq}
 use lib.Pointwise.{pointwise}
+use Rattle.month_text.specs.declared.month.TheConstants.{MOST_NUMBER}
 use Rattle.month_text.specs.Numbers.{bind, is_digit, digits_on}
 use Rattle.month_text.specs.Lines.{past}
 use Rattle.journal_text.specs.Pieces.{component_of}
@@ -18,7 +19,7 @@ two_left false y n = refl
 not_ended : (n b c : ℕ) (t : List ℕ) → Ended (n, b ∷ c ∷ t) ≡ None
 not_ended n b c t = two_left (nat_lt n 1000) (nat_eq b 10) n
 
-step : (n c : ℕ) (cs : List ℕ) (d b : Bool) → is_digit c ≡ d → (nat_lt 0 n && nat_lt n 10000000000) ≡ b → (d ≡ false → Ended (n, c ∷ cs) ≡ None) → (d ≡ true → b ≡ true → bind (digits_on (n * 10 + (c - 48)) cs) Ended ≡ None) → bind (digits_on n (c ∷ cs)) Ended ≡ None
+step : (n c : ℕ) (cs : List ℕ) (d b : Bool) → is_digit c ≡ d → (nat_lt 0 n && nat_le (n * 10) MOST_NUMBER) ≡ b → (d ≡ false → Ended (n, c ∷ cs) ≡ None) → (d ≡ true → b ≡ true → bind (digits_on (n * 10 + (c - 48)) cs) Ended ≡ None) → bind (digits_on n (c ∷ cs)) Ended ≡ None
 step n c cs true true h k stop go = rw (h, k) (go refl refl)
 step n c cs true false h k stop go = rw (h, k) refl
 step n c cs false b h k stop go = rw h (stop refl)
@@ -31,7 +32,7 @@ big : (n : ℕ) (t : List ℕ) → 1000 ≤ n → bind (digits_on n t) Ended ≡
 big n [] h = big_ended n [] h
 big n (c ∷ cs) h = step n c cs (is_digit c) _ refl refl (λ e. big_ended n (c ∷ cs) h) (λ e f. big (n * 10 + (c - 48)) cs (omega arith))
 
-positive : (n : ℕ) → (nat_lt 0 n && nat_lt n 10000000000) ≡ true → 1 ≤ n
+positive : (n : ℕ) → (nat_lt 0 n && nat_le (n * 10) MOST_NUMBER) ≡ true → 1 ≤ n
 positive n e = grind (arith, nat_tests)
 
 first : (c : ℕ) (cs : List ℕ) (d : Bool) → is_digit c ≡ d → (d ≡ true → bind (digits_on (c - 48) cs) Ended ≡ None) → component_of (c ∷ cs) ≡ None

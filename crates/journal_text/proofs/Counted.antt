@@ -4,7 +4,7 @@ use Rattle.std.proofs.lemmas.Bool.Decides.{nat_tests}
 use Rattle.std.proofs.lemmas.List.Sums.{sum_by-append}
 use Rattle.std.specs.Prelude.{nat_eq}
 use Rattle.month_text.specs.OneSpelling.{breaks}
-use Rattle.journal_text.specs.Pieces.{lines, line_grown, begins, month_of, from_entry, lines_on, pieces}
+use Rattle.journal_text.specs.Pieces.{lines, line_grown, begins, month_of, from_entry, most_lines, lines_on, pieces}
 use Rattle.journal_text.proofs.Months.{month_more, after_more, begun_month, begun_after}
 
 -- each line but the last ends in byte 10
@@ -82,7 +82,7 @@ pieces_after n j [] w = refl
 pieces_after n j (l ∷ ls) w = after_line n j l ls (begins l) refl w (λ i v. pieces_after n i ls v)
 
 -- the lines of a piece, as they are counted on with saturation
-pub counted_on : (line count plus next b : ℕ) → count ≡ min b 4294967295 → plus ≡ min (count + 1) 4294967295 → next ≡ min (line + plus) 4294967295 → next ≡ lines_on line (b + 1)
+pub counted_on : (line count plus next b : ℕ) → count ≡ min b most_lines → plus ≡ min (count + 1) most_lines → next ≡ min (line + plus) most_lines → next ≡ lines_on line (b + 1)
 counted_on line count plus next b e f g = omega arith
 
 pub some_left : (n : ℕ) (b : Bool) → b ≡ nat_eq n 0 → b ≡ false → 0 < n

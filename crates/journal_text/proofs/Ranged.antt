@@ -2,7 +2,7 @@
 use Rattle.std.proofs.Common.{◌≡◌, ℕ, zero, suc, List, [], ◌∷◌, Option, Some, None, subst, arith}
 use Rattle.std.specs.List.{All}
 use Rattle.refusal.specs.declared.Layer.{Layer}
-use Rattle.refusal.specs.Answers.{Told}
+use Rattle.refusal.specs.Answers.{Answer}
 use Rattle.month_text.specs.Months.{read_month}
 use Rattle.month_text.specs.Numbers.{bind}
 use Rattle.month_text.specs.Accepted.{InRange}
@@ -16,11 +16,11 @@ use Rattle.journal_text.specs.Journals.{at_line, after_first, terms_hold, entry_
 abbrev Ranged : List Entry → Type 0
 Ranged entries = All (λ (e : Entry). InRange e.month) entries
 
-read_at : {T : Type 0} (line : ℕ) (t : Told T) (v : T) → at_line line t ≡ Told.done v → t ≡ Told.done v
-read_at line (Told.done w) v e = e
-read_at line (Told.refused n l p) v e = absurd cc
+read_at : {T : Type 0} (line : ℕ) (t : Answer T) (v : T) → at_line line t ≡ Answer.done v → t ≡ Answer.done v
+read_at line (Answer.done w) v e = e
+read_at line (Answer.refused n l p) v e = absurd cc
 
-entry_ranged : (first : Option Entry) (p : Piece) (v : Entry) → entry_of first p ≡ Told.done v → InRange v.month
+entry_ranged : (first : Option Entry) (p : Piece) (v : Entry) → entry_of first p ≡ Answer.done v → InRange v.month
 entry_ranged first p v e =
     let a = or_done (bind (action_of p.line) (after_first first)) 1 Layer.Text p.number _ v e in
     let b = next_done (at_line p.number (read_month p.month)) _ v a.2 in
@@ -31,7 +31,7 @@ more_ranged : (e : Entry) (es : List Entry) → InRange e.month → Ranged es �
 more_ranged e es h r zero d l = h
 more_ranged e es h r (suc k) d l = r k d (omega (arith, l))
 
-entries_ranged : (first : Option Entry) (ps : List Piece) (es : List Entry) → entries_of first ps ≡ Told.done es → Ranged es
+entries_ranged : (first : Option Entry) (ps : List Piece) (es : List Entry) → entries_of first ps ≡ Answer.done es → Ranged es
 entries_ranged first [] es e =
     let n : [] ≡ es = cc in
     subst Ranged n (λ k d l. absurd (omega (arith, l)))
@@ -41,10 +41,10 @@ entries_ranged first (p ∷ ps) es e =
     let n : a.0 ∷ b.0 ≡ es = cc b.2 in
     subst Ranged n (more_ranged a.0 b.0 (entry_ranged first p a.0 a.1) (entries_ranged (Some (or_first first a.0)) ps b.0 b.1))
 
-journal_ranged : (before : List ℕ) (ps : List Piece) (es : List Entry) → journal_of before ps ≡ Told.done es → Ranged es
+journal_ranged : (before : List ℕ) (ps : List Piece) (es : List Entry) → journal_of before ps ≡ Answer.done es → Ranged es
 journal_ranged [] (p ∷ ps) es e = entries_ranged None (p ∷ ps) es e
 journal_ranged [] [] es e = absurd cc
 journal_ranged (c ∷ cs) ps es e = absurd cc
 
-pub journal_in_range : (text : List ℕ) (es : List Entry) → read_journal text ≡ Told.done es → Ranged es
+pub journal_in_range : (text : List ℕ) (es : List Entry) → read_journal text ≡ Answer.done es → Ranged es
 journal_in_range text es e = journal_ranged (month_of (lines text)) (pieces 1 (lines text)) es e

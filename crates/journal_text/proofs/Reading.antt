@@ -6,7 +6,7 @@ use lib.Pointwise.{pointwise}
 use Rattle.std.specs.Prelude.{nat_eq, bytes_eq, slice_get}
 use Rattle.std.specs.List.{starts_with}
 use Rattle.refusal.specs.declared.Layer.{Layer}
-use Rattle.refusal.specs.Answers.{Told, next}
+use Rattle.refusal.specs.Answers.{Answer, next}
 use Rattle.refusal.proofs.Apart.{done_refused, refused_done}
 use Rattle.month_text.specs.declared.month.Month.{Month}
 use Rattle.month_text.specs.Numbers.{bind}
@@ -18,27 +18,27 @@ use Rattle.journal_text.specs.declared.entry.Action.{Action}
 use Rattle.journal_text.specs.declared.entry.Action.TheVariants.{Bill, Resettle}
 use Rattle.journal_text.specs.declared.entry.Entry.{Entry}
 use Rattle.journal_text.specs.Pieces.{Piece, lines, begins, component_of, action_of, first_action, month_of, from_entry, lines_on, pieces}
-use Rattle.journal_text.specs.Journals.{at_line, after_first, terms_hold, or_first, entries_of, journal_of, read_journal}
+use Rattle.journal_text.specs.Journals.{at_line, after_first, terms_hold, line_entry, or_first, entries_of, journal_of, read_journal}
 use Rattle.journal_text.proofs.Counted.{Lined, lined, Filled, filled, some_line, pieces_after}
 use Rattle.journal_text.proofs.Months.{after_more}
 
 -- what the rest of a journal says, where its first line has the given number
-abbrev pub rest_of : Option Entry → ℕ → List ℕ → List Piece → Told (List Entry)
+abbrev pub rest_of : Option Entry → ℕ → List ℕ → List Piece → Answer (List Entry)
 rest_of first n [] (p ∷ ps) = entries_of first (p ∷ ps)
 rest_of first n [] [] = off_layout n
 rest_of first n (c ∷ cs) ps = off_layout n
 
-abbrev pub read_rest : Option Entry → ℕ → List ℕ → Told (List Entry)
+abbrev pub read_rest : Option Entry → ℕ → List ℕ → Answer (List Entry)
 read_rest first n t = rest_of first n (month_of (lines t)) (pieces n (lines t))
 
 -- entries that were read, put before those of the rest
-abbrev pub ahead : List Entry → Told (List Entry) → Told (List Entry)
-ahead es (Told.done fs) = Told.done (es ++ fs)
-ahead es (Told.refused n l p) = Told.refused n l p
+abbrev pub ahead : List Entry → Answer (List Entry) → Answer (List Entry)
+ahead es (Answer.done fs) = Answer.done (es ++ fs)
+ahead es (Answer.refused n l p) = Answer.refused n l p
 
-ahead_none : (o : Told (List Entry)) → o ≡ ahead [] o
-ahead_none (Told.done fs) = refl
-ahead_none (Told.refused n l p) = refl
+ahead_none : (o : Answer (List Entry)) → o ≡ ahead [] o
+ahead_none (Answer.done fs) = refl
+ahead_none (Answer.refused n l p) = refl
 
 whole : (m : List ℕ) (ps : List Piece) → journal_of m ps ≡ rest_of None 1 m ps
 whole [] (p ∷ ps) = refl
@@ -98,21 +98,18 @@ none_at first n (l ∷ ls) w e = none_by first n l ls (begins l) refl w.0 e
 pub no_piece : (first : Option Entry) (n : ℕ) (t : List ℕ) → bind (first_action (lines t)) (after_first first) ≡ None → read_rest first n t ≡ off_layout n
 no_piece first n t e = none_at first n (lines t) (filled t) e
 
-abbrev pub made : ℕ → Action → Month → Entry
-made n a m = record { action = a; line = n; month = m }
-
 -- an entry begins here: its month's text, and then its terms
-abbrev pub entry_at : Option Entry → ℕ → Action → Told Month → Told Entry
-entry_at first n a told = next told (λ m. cond (terms_hold first m) (Told.done (made n a m)) (out_of_range n))
+abbrev pub entry_at : Option Entry → ℕ → Action → Answer Month → Answer Entry
+entry_at first n a answered = next answered (λ m. cond (terms_hold first m) (Answer.done (line_entry n a m)) (out_of_range n))
 
-abbrev passed : Bool → ℕ → Told (Unit {0})
-passed b n = cond b (Told.done tt) (out_of_range n)
+abbrev passed : Bool → ℕ → Answer (Unit {0})
+passed b n = cond b (Answer.done tt) (out_of_range n)
 
-abbrev pub terms_at : Option Entry → Entry → Told (Unit {0})
+abbrev pub terms_at : Option Entry → Entry → Answer (Unit {0})
 terms_at first e = passed (terms_hold first e.month) e.line
 
-abbrev pub then_rest : Option Entry → List Piece → Told Entry → Told (List Entry)
-then_rest first ps told = next told (λ e. next (entries_of (Some (or_first first e)) ps) (λ es. Told.done (e ∷ es)))
+abbrev pub then_rest : Option Entry → List Piece → Answer Entry → Answer (List Entry)
+then_rest first ps answered = next answered (λ e. next (entries_of (Some (or_first first e)) ps) (λ es. Answer.done (e ∷ es)))
 
 begun_at : (first : Option Entry) (n : ℕ) (ls : List (List ℕ)) (a : Action) → bind (first_action ls) (after_first first) ≡ Some a → rest_of first n (month_of ls) (pieces n ls) ≡ then_rest first (pieces (lines_on n 1) (drop 1 ls)) (entry_at first n a (at_line n (read_month (month_of (drop 1 ls)))))
 begun_at first n [] a e = absurd cc
@@ -131,36 +128,36 @@ begun first n t m r a e d f =
     begun_at first n (lines t) a e ∙ rw (g, d, f) refl
 
 -- the month's text is refused
-pub month_stops : (first : Option Entry) (n : ℕ) (a : Action) (o : Told Month) (k : ℕ) (l : Layer) (p : ℕ) → next o (λ m. Told.done (made n a m)) ≡ Told.refused k l p → entry_at first n a o ≡ Told.refused k l p
-month_stops first n a (Told.done m) k l p e = absurd (done_refused (made n a m) k l p e)
-month_stops first n a (Told.refused i j q) k l p e = cc
+pub month_stops : (first : Option Entry) (n : ℕ) (a : Action) (o : Answer Month) (k : ℕ) (l : Layer) (p : ℕ) → next o (λ m. Answer.done (line_entry n a m)) ≡ Answer.refused k l p → entry_at first n a o ≡ Answer.refused k l p
+month_stops first n a (Answer.done m) k l p e = absurd (done_refused (line_entry n a m) k l p e)
+month_stops first n a (Answer.refused i j q) k l p e = cc
 
 -- the terms are refused
-stop_by : (b : Bool) (v : Entry) (n k : ℕ) (l : Layer) (p : ℕ) → passed b n ≡ Told.refused k l p → cond b (Told.done v) (out_of_range n) ≡ Told.refused k l p
+stop_by : (b : Bool) (v : Entry) (n k : ℕ) (l : Layer) (p : ℕ) → passed b n ≡ Answer.refused k l p → cond b (Answer.done v) (out_of_range n) ≡ Answer.refused k l p
 stop_by true v n k l p e = absurd (done_refused tt k l p e)
 stop_by false v n k l p e = cc
 
-pub terms_stop : (first : Option Entry) (n : ℕ) (a : Action) (o : Told Month) (v : Entry) (k : ℕ) (l : Layer) (p : ℕ) → next o (λ m. Told.done (made n a m)) ≡ Told.done v → terms_at first v ≡ Told.refused k l p → entry_at first n a o ≡ Told.refused k l p
-terms_stop first n a (Told.done m) v k l p e f =
-    let d : made n a m ≡ v = cc in
-    stop_by (terms_hold first m) (made n a m) n k l p (subst (λ (w : Entry). terms_at first w ≡ Told.refused k l p) (sym d) f)
-terms_stop first n a (Told.refused i j q) v k l p e f = absurd (refused_done i j q v e)
+pub terms_stop : (first : Option Entry) (n : ℕ) (a : Action) (o : Answer Month) (v : Entry) (k : ℕ) (l : Layer) (p : ℕ) → next o (λ m. Answer.done (line_entry n a m)) ≡ Answer.done v → terms_at first v ≡ Answer.refused k l p → entry_at first n a o ≡ Answer.refused k l p
+terms_stop first n a (Answer.done m) v k l p e f =
+    let d : line_entry n a m ≡ v = cc in
+    stop_by (terms_hold first m) (line_entry n a m) n k l p (subst (λ (w : Entry). terms_at first w ≡ Answer.refused k l p) (sym d) f)
+terms_stop first n a (Answer.refused i j q) v k l p e f = absurd (refused_done i j q v e)
 
 -- the entry is accepted
-pass_by : (b : Bool) (v : Entry) (n : ℕ) → passed b n ≡ Told.done tt → cond b (Told.done v) (out_of_range n) ≡ Told.done v
+pass_by : (b : Bool) (v : Entry) (n : ℕ) → passed b n ≡ Answer.done tt → cond b (Answer.done v) (out_of_range n) ≡ Answer.done v
 pass_by true v n e = refl
 pass_by false v n e = absurd (refused_done 2 Layer.Text n tt e)
 
-pub terms_pass : (first : Option Entry) (n : ℕ) (a : Action) (o : Told Month) (v : Entry) → next o (λ m. Told.done (made n a m)) ≡ Told.done v → terms_at first v ≡ Told.done tt → entry_at first n a o ≡ Told.done v
-terms_pass first n a (Told.done m) v e f =
-    let d : made n a m ≡ v = cc in
-    pass_by (terms_hold first m) (made n a m) n (subst (λ (w : Entry). terms_at first w ≡ Told.done tt) (sym d) f) ∙ ap Told.done d
-terms_pass first n a (Told.refused i j q) v e f = absurd (refused_done i j q v e)
+pub terms_pass : (first : Option Entry) (n : ℕ) (a : Action) (o : Answer Month) (v : Entry) → next o (λ m. Answer.done (line_entry n a m)) ≡ Answer.done v → terms_at first v ≡ Answer.done tt → entry_at first n a o ≡ Answer.done v
+terms_pass first n a (Answer.done m) v e f =
+    let d : line_entry n a m ≡ v = cc in
+    pass_by (terms_hold first m) (line_entry n a m) n (subst (λ (w : Entry). terms_at first w ≡ Answer.done tt) (sym d) f) ∙ ap Answer.done d
+terms_pass first n a (Answer.refused i j q) v e f = absurd (refused_done i j q v e)
 
 -- the entries so far, with one more
-pub ahead_more : (es : List Entry) (e : Entry) (o : Told (List Entry)) → ahead es (next o (λ fs. Told.done (e ∷ fs))) ≡ ahead (es ++ e ∷ []) o
-ahead_more es e (Told.done fs) = rw append_assoc refl
-ahead_more es e (Told.refused n l p) = refl
+pub ahead_more : (es : List Entry) (e : Entry) (o : Answer (List Entry)) → ahead es (next o (λ fs. Answer.done (e ∷ fs))) ≡ ahead (es ++ e ∷ []) o
+ahead_more es e (Answer.done fs) = rw append_assoc refl
+ahead_more es e (Answer.refused n l p) = refl
 
 pub first_of_more : (es : List Entry) (e : Entry) → slice_get (es ++ e ∷ []) 0 ≡ Some (or_first (slice_get es 0) e)
 first_of_more [] e = refl
@@ -182,11 +179,11 @@ rest_next first n r ls e h =
     let k = some_line r h in
     rw e (entry_next first n ls (subst (λ (xs : List (List ℕ)). 0 < length xs) e k))
 
-pub rest_none : (first : Option Entry) (n : ℕ) (r : List ℕ) → length r ≡ 0 → entries_of first (pieces n (lines r)) ≡ Told.done []
+pub rest_none : (first : Option Entry) (n : ℕ) (r : List ℕ) → length r ≡ 0 → entries_of first (pieces n (lines r)) ≡ Answer.done []
 rest_none first n [] h = refl
 rest_none first n (c ∷ cs) h = absurd (omega arith)
 
-pub stopped_none : (whole t : List ℕ) (es : List Entry) (first : Option Entry) (n : ℕ) → read_journal whole ≡ ahead es (read_rest (slice_get es 0) n t) → first ≡ slice_get es 0 → None ≡ bind (first_action (lines t)) (after_first first) → Told.refused 1 Layer.Text n ≡ read_journal whole
+pub stopped_none : (whole t : List ℕ) (es : List Entry) (first : Option Entry) (n : ℕ) → read_journal whole ≡ ahead es (read_rest (slice_get es 0) n t) → first ≡ slice_get es 0 → None ≡ bind (first_action (lines t)) (after_first first) → Answer.refused 1 Layer.Text n ≡ read_journal whole
 stopped_none whole t es first n e f h = sym (e ∙ ap (ahead es) (no_piece (slice_get es 0) n t (sym (h ∙ ap (λ (o : Option Entry). bind (first_action (lines t)) (after_first o)) f))))
 
 -- a piece of a journal: the entries before it, its line's number, its action, its month's text and what comes after
@@ -194,22 +191,22 @@ module _ (whole t m r : List ℕ) (es : List Entry) (first : Option Entry) (n : 
   opened : read_journal whole ≡ ahead es (then_rest (slice_get es 0) (pieces (lines_on n (breaks m + 1)) (lines r)) (entry_at (slice_get es 0) n a (at_line n (read_month m))))
   opened = e ∙ ap (ahead es) (begun (slice_get es 0) n t m r a (sym (h ∙ ap (λ (o : Option Entry). bind (first_action (lines t)) (after_first o)) f)) d g)
 
-  pub stopped_month : (k : ℕ) (l : Layer) (p : ℕ) → Told.refused k l p ≡ next (at_line n (read_month m)) (λ v. Told.done (made n a v)) → Told.refused k l p ≡ read_journal whole
+  pub stopped_month : (k : ℕ) (l : Layer) (p : ℕ) → Answer.refused k l p ≡ next (at_line n (read_month m)) (λ v. Answer.done (line_entry n a v)) → Answer.refused k l p ≡ read_journal whole
   stopped_month k l p s = sym (opened ∙ rw (month_stops (slice_get es 0) n a (at_line n (read_month m)) k l p (sym s)) refl)
 
-  pub stopped_terms : (v : Entry) (k : ℕ) (l : Layer) (p : ℕ) → Told.done v ≡ next (at_line n (read_month m)) (λ v. Told.done (made n a v)) → Told.refused k l p ≡ terms_at first v → Told.refused k l p ≡ read_journal whole
+  pub stopped_terms : (v : Entry) (k : ℕ) (l : Layer) (p : ℕ) → Answer.done v ≡ next (at_line n (read_month m)) (λ v. Answer.done (line_entry n a v)) → Answer.refused k l p ≡ terms_at first v → Answer.refused k l p ≡ read_journal whole
   stopped_terms v k l p s u = sym (opened ∙ rw (terms_stop (slice_get es 0) n a (at_line n (read_month m)) v k l p (sym s) (sym (u ∙ ap (λ (o : Option Entry). terms_at o v) f))) refl)
 
-  accepted : (v : Entry) → Told.done v ≡ next (at_line n (read_month m)) (λ v. Told.done (made n a v)) → Told.done tt ≡ terms_at first v → read_journal whole ≡ ahead (es ++ v ∷ []) (entries_of (slice_get (es ++ v ∷ []) 0) (pieces (lines_on n (breaks m + 1)) (lines r)))
+  accepted : (v : Entry) → Answer.done v ≡ next (at_line n (read_month m)) (λ v. Answer.done (line_entry n a v)) → Answer.done tt ≡ terms_at first v → read_journal whole ≡ ahead (es ++ v ∷ []) (entries_of (slice_get (es ++ v ∷ []) 0) (pieces (lines_on n (breaks m + 1)) (lines r)))
   accepted v s u =
       opened ∙ rw (terms_pass (slice_get es 0) n a (at_line n (read_month m)) v (sym s) (sym (u ∙ ap (λ (o : Option Entry). terms_at o v) f))) refl
       ∙ ahead_more es v (entries_of (Some (or_first (slice_get es 0) v)) (pieces (lines_on n (breaks m + 1)) (lines r)))
       ∙ ap (λ (o : Option Entry). ahead (es ++ v ∷ []) (entries_of o (pieces (lines_on n (breaks m + 1)) (lines r)))) (sym (first_of_more es v))
 
-  pub ended : (v : Entry) → Told.done v ≡ next (at_line n (read_month m)) (λ v. Told.done (made n a v)) → Told.done tt ≡ terms_at first v → length r ≡ 0 → Told.done (es ++ v ∷ []) ≡ read_journal whole
+  pub ended : (v : Entry) → Answer.done v ≡ next (at_line n (read_month m)) (λ v. Answer.done (line_entry n a v)) → Answer.done tt ≡ terms_at first v → length r ≡ 0 → Answer.done (es ++ v ∷ []) ≡ read_journal whole
   ended v s u z =
       sym (accepted v s u ∙ rw (rest_none (slice_get (es ++ v ∷ []) 0) (lines_on n (breaks m + 1)) r z) (rw append-nil refl))
 
-  pub went_on : (v : Entry) (i : ℕ) → Told.done v ≡ next (at_line n (read_month m)) (λ v. Told.done (made n a v)) → Told.done tt ≡ terms_at first v → 0 < length r → i ≡ lines_on n (breaks m + 1) → read_journal whole ≡ ahead (es ++ v ∷ []) (read_rest (slice_get (es ++ v ∷ []) 0) i r)
+  pub went_on : (v : Entry) (i : ℕ) → Answer.done v ≡ next (at_line n (read_month m)) (λ v. Answer.done (line_entry n a v)) → Answer.done tt ≡ terms_at first v → 0 < length r → i ≡ lines_on n (breaks m + 1) → read_journal whole ≡ ahead (es ++ v ∷ []) (read_rest (slice_get (es ++ v ∷ []) 0) i r)
   went_on v i s u z q =
       accepted v s u ∙ ap (ahead (es ++ v ∷ [])) (sym (rest_next (slice_get (es ++ v ∷ []) 0) (lines_on n (breaks m + 1)) r (drop 1 (lines t)) g z) ∙ ap (λ j. read_rest (slice_get (es ++ v ∷ []) 0) j r) (sym q))

@@ -45,9 +45,13 @@ abbrev pub from_entry : List (List ℕ) → List (List ℕ)
 from_entry [] = []
 from_entry (l ∷ ls) = cond (begins l) (l ∷ ls) (from_entry ls)
 
--- the line some lines on; lines are counted up to 4,294,967,295
+-- lines are counted up to this
+abbrev pub most_lines : ℕ
+most_lines = 4294967295
+
+-- the line some lines on
 abbrev pub lines_on : ℕ → ℕ → ℕ
-lines_on line count = min (line + count) 4294967295
+lines_on line count = min (line + count) most_lines
 
 -- a piece: its line's number, its line, and its month's text
 pub record Piece : Type 0 where

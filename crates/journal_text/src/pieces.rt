@@ -2,7 +2,7 @@
 ghost use Rattle.std.specs.Prelude.{◌≡◌, ◌<◌, ◌≤◌, min, length, take, drop, IfSome, MatchOption, [], ◌∷◌};
 ghost use Rattle.std.specs.Option.{option_map};
 ghost use Rattle.month_text.specs.OneSpelling.{breaks};
-ghost use Rattle.journal_text.specs.Pieces.{lines, first_action, month_of, from_entry};
+ghost use Rattle.journal_text.specs.Pieces.{lines, first_action, month_of, from_entry, most_lines};
 
 use crate::entry::Action;
 use crate::entry_lines::{begins_entry, entry_action};
@@ -60,7 +60,7 @@ pub(crate) fn first_piece(text: &[u8]) -> Option<Piece<'_>>
 
 /// How many lines end in a text.
 pub(crate) fn line_count(text: &[u8]) -> u32
-    ensures { result ≡ min (breaks text.now) 4294967295 }
+    ensures { result ≡ min (breaks text.now) most_lines }
 {
     let lines = text.iter().filter(|byte| **byte == b'\n').count();
     u32::try_from(lines).unwrap_or(u32::MAX)

@@ -2,13 +2,13 @@
 ghost use Rattle.std.specs.Prelude.{◌≡◌, ◌<◌, ◌≤◌, cond, length, IfSome, IfOk, vec_len, drop};
 ghost use Rattle.std.specs.List.{All};
 ghost use Rattle.std.specs.Option.{option_map, option_copied};
-ghost use Rattle.refusal.specs.Answers.{Told, answer, next};
+ghost use Rattle.refusal.specs.Answers.{Answer, answer, next};
 ghost use Rattle.month_text.specs.Accepted.{InRange};
 ghost use Rattle.month_text.specs.Numbers.{bind};
 ghost use Rattle.month_text.specs.Ranges.{out_of_range};
 ghost use Rattle.month_text.specs.Months.{read_month};
 ghost use Rattle.journal_text.specs.Pieces.{lines, first_action, month_of, from_entry};
-ghost use Rattle.journal_text.specs.Journals.{at_line, after_first, terms_hold, read_journal};
+ghost use Rattle.journal_text.specs.Journals.{at_line, after_first, terms_hold, line_entry, read_journal};
 ghost use Rattle.journal_text.specs.Answered.{Answered};
 
 use crate::entry::{Action, Entry};
@@ -35,7 +35,7 @@ fn next_piece<'a>(first: Option<&Entry>, text: &'a [u8]) -> Option<Piece<'a>>
 
 /// The entry of a piece whose first line is `line`; a fault's line counts over the whole journal.
 fn read_entry(piece: &Piece<'_>, line: u32) -> Result<Entry, Fault>
-    ensures value { answer result ≡ next (at_line line (read_month piece.now.month.now)) (λ m. Told.done (record { action = piece.now.action; line = line; month = m })) }
+    ensures value { answer result ≡ next (at_line line (read_month piece.now.month.now)) (λ m. Answer.done (line_entry line piece.now.action m)) }
     ensures range { IfOk result (λ entry. InRange entry.month) }
 {
     let month = read(piece.month).map_err(|fault| Fault {
@@ -51,7 +51,7 @@ fn read_entry(piece: &Piece<'_>, line: u32) -> Result<Entry, Fault>
 
 /// The ledger is opened once, on the first entry's terms: other terms would not be used.
 fn check_terms(first: Option<&Entry>, entry: &Entry) -> Result<(), Fault>
-    ensures { answer result ≡ cond (terms_hold (option_copied first.entry) entry.now.month) (Told.done tt) (out_of_range entry.now.line) }
+    ensures { answer result ≡ cond (terms_hold (option_copied first.entry) entry.now.month) (Answer.done tt) (out_of_range entry.now.line) }
 {
     if first.is_some_and(|first| !same_terms(&first.month, &entry.month)) {
         return Err(Layer::Text.refuses_at(Refusal::Range, entry.line));
@@ -61,7 +61,7 @@ fn check_terms(first: Option<&Entry>, entry: &Entry) -> Result<(), Fault>
 
 /// All entries of a journal, which has one at least, or the first line that is refused.
 pub fn read_journal(heap: Global, text: &[u8]) -> Result<Vec<Entry>, Unread>
-    ensures told { Answered (λ entries. entries.items) result (read_journal text.now) }
+    ensures answered { Answered (λ entries. entries.items) result (read_journal text.now) }
     ensures some { IfOk result (λ entries. 1 ≤ vec_len entries) }
     ensures range { IfOk result (λ entries. All (λ entry. InRange entry.month) entries.items) }
 {

@@ -8,8 +8,8 @@ use Rattle.refusal.specs.declared.Layer.TheVariants as layer
 use Rattle.refusal.proofs.Apart.{refused_done, done_refused}
 use Rattle.tariff.specs.Heads.{sums, within, book_rule}
 use Rattle.ledger.specs.declared.unbooked.Unbooked.{Unbooked}
-use Rattle.ledger.specs.Standings.{Standing, standing}
-use Rattle.ledger.specs.Booking.{booking_told}
+use Rattle.ledger.specs.States.{LedgerState, ledger_state}
+use Rattle.ledger.specs.Booking.{booking_answer}
 use Rattle.ledger.specs.Histories.{History, booked, history_with}
 use Rattle.ledger.specs.Kept.{Terms, Kept}
 
@@ -19,8 +19,8 @@ sums_total [] (y ∷ ys) e = absurd (omega arith)
 sums_total (x ∷ xs) [] e = absurd (omega arith)
 sums_total (x ∷ xs) (y ∷ ys) e = let i = sums_total xs ys (omega arith) in omega (arith, ints, i)
 
-booked_kept : (t : Terms) (h : History) (s : Standing) (amounts heads : List ℤ) → length s.heads ≡ length amounts → heads ≡ sums s.heads amounts → Kept t h s
-    → Kept t (booked amounts ∷ h) (standing heads s.accounts s.file)
+booked_kept : (t : Terms) (h : History) (s : LedgerState) (amounts heads : List ℤ) → length s.heads ≡ length amounts → heads ≡ sums s.heads amounts → Kept t h s
+    → Kept t (booked amounts ∷ h) (ledger_state heads s.accounts s.file)
 booked_kept t h s amounts heads l e k =
     let total = ap sum_z e ∙ sums_total s.heads amounts l in
     record {
@@ -37,7 +37,7 @@ booked_kept t h s amounts heads l e k =
         months = k.invariant.months;
         current = k.invariant.current;
         begun = k.invariant.begun;
-        peopled = k.invariant.peopled;
+        members = k.invariant.members;
         pool = k.invariant.pool;
         pool_small = k.invariant.pool_small;
         units_small = k.invariant.units_small;
@@ -46,14 +46,14 @@ booked_kept t h s amounts heads l e k =
       };
     }
 
-pub booking_keeps : (t : Terms) (h : History) (s : Standing) (amounts heads : List ℤ) (r : Result (Unit {0}) Unbooked) → length s.heads ≡ length amounts
-    → booking_told r ≡ bare (book_rule s.heads amounts) → heads ≡ after (book_rule s.heads amounts) (λ sums. sums) s.heads → Kept t h s
-    → Kept t (history_with r (booked amounts) h) (standing heads s.accounts s.file)
-booking_keeps t h s amounts heads r l told after' k = go (all_pass within (sums s.heads amounts)) r told after'
+pub booking_keeps : (t : Terms) (h : History) (s : LedgerState) (amounts heads : List ℤ) (r : Result (Unit {0}) Unbooked) → length s.heads ≡ length amounts
+    → booking_answer r ≡ bare (book_rule s.heads amounts) → heads ≡ after (book_rule s.heads amounts) (λ sums. sums) s.heads → Kept t h s
+    → Kept t (history_with r (booked amounts) h) (ledger_state heads s.accounts s.file)
+booking_keeps t h s amounts heads r l answered after' k = go (all_pass within (sums s.heads amounts)) r answered after'
   where
-    go : (b : Bool) (r : Result (Unit {0}) Unbooked) → booking_told r ≡ bare (cond b (done (sums s.heads amounts)) (refused 14 layer.Ledger 0)) → heads ≡ after (cond b (done (sums s.heads amounts)) (refused 14 layer.Ledger 0)) (λ sums. sums) s.heads
-        → Kept t (history_with r (booked amounts) h) (standing heads s.accounts s.file)
-    go true (Ok v) told e = booked_kept t h s amounts heads l e k
-    go true (Err u) told e = absurd (refused_done (number u.fault.refusal) u.fault.layer u.fault.place tt told)
-    go false (Ok v) told e = absurd (done_refused tt 14 layer.Ledger 0 told)
-    go false (Err u) told e = subst (λ (hs : List ℤ). Kept t h (standing hs s.accounts s.file)) (sym e) k
+    go : (b : Bool) (r : Result (Unit {0}) Unbooked) → booking_answer r ≡ bare (cond b (done (sums s.heads amounts)) (refused 14 layer.Ledger 0)) → heads ≡ after (cond b (done (sums s.heads amounts)) (refused 14 layer.Ledger 0)) (λ sums. sums) s.heads
+        → Kept t (history_with r (booked amounts) h) (ledger_state heads s.accounts s.file)
+    go true (Ok v) answered e = booked_kept t h s amounts heads l e k
+    go true (Err u) answered e = absurd (refused_done (number u.fault.refusal) u.fault.layer u.fault.place tt answered)
+    go false (Ok v) answered e = absurd (done_refused tt 14 layer.Ledger 0 answered)
+    go false (Err u) answered e = subst (λ (hs : List ℤ). Kept t h (ledger_state hs s.accounts s.file)) (sym e) k

@@ -4,12 +4,12 @@ use lib.ListN.{get_or-map}
 use denote.Param.Members.{Mut, Called}
 use Rattle.std.specs.Array.{IsMapOf}
 use Rattle.std.proofs.lemmas.List.{length-map, same_lists, get_or_default}
-use Rattle.charges_text.specs.declared.charges.ComponentCharge.{ComponentCharge}
+use Rattle.statement.specs.declared.charge.ComponentCharge.{ComponentCharge}
 use Rattle.tariff.specs.Heads.{sums}
 use Rattle.tariff.proofs.Sums.{sums_at, sums_length}
 use Rattle.ledger.specs.declared.account.Account.{Account}
 use Rattle.ledger.specs.declared.accounts.Accounts.{Accounts}
-use Rattle.ledger.specs.Standings.{balances, account_at}
+use Rattle.ledger.specs.States.{balances, account_at}
 use Rattle.ledger.specs.Billing.{billed_account, billed_accounts}
 use Rattle.ledger.proofs.Overwritten.{over_at, over_more, over_end}
 

@@ -6,6 +6,7 @@ use Rattle.sharing.specs.Domain.{shareable}
 use Rattle.sharing.specs.Tolerance.{Near}
 use Rattle.sharing.proofs.Lawful.{Fair}
 use Rattle.ledger.specs.Kept.{Terms}
+use Rattle.limits.specs.declared.TheConstants.{MOST_CENTS, MOST_UNITS}
 
 -- the laws of the rule that a ledger was opened with
 pub record LawfulRule (t : Terms) : Type 0 where
@@ -18,7 +19,7 @@ module _ (t : Terms) (law : LawfulRule t) (p : ℤ) (us : List ℕ) (m : ℕ) (x
   pub none_unused : get_or us m 0 ≡ 0 → x ≡ pos 0
   none_unused z = e ∙ law.unused p us m z
 
-  pub some_near : nat_abs p ≤ 4000000000 → sum us ≤ 2000000000 → 0 < sum us → Near t.step p (sum us) (get_or us m 0) x
+  pub some_near : nat_abs p ≤ MOST_CENTS → sum us ≤ MOST_UNITS → 0 < sum us → Near t.step p (sum us) (get_or us m 0) x
   some_near hp hu u =
-      let in' : shareable p us ≡ true = and_from (leb (nat_abs p) 4000000000) _ (le-leb (nat_abs p) 4000000000 hp) (and_from (leb 1 (sum us)) (leb (sum us) 2000000000) (le-leb 1 (sum us) u) (le-leb (sum us) 2000000000 hu)) in
+      let in' : shareable p us ≡ true = and_from (leb (nat_abs p) MOST_CENTS) _ (le-leb (nat_abs p) MOST_CENTS hp) (and_from (leb 1 (sum us)) (leb (sum us) MOST_UNITS) (le-leb 1 (sum us) u) (le-leb (sum us) MOST_UNITS hu)) in
       subst (Near t.step p (sum us) (get_or us m 0)) (sym e) (law.fair p us in' m)

@@ -1,6 +1,6 @@
 pub mod Overwritten
 pub mod Closed
-pub mod Laid
+pub mod ByComponent
 pub mod Placed
 pub mod Passed
 pub mod Rests

@@ -22,7 +22,7 @@ module _ {X : Type 0} (d : X) (new : List X) where
         ∙ rw e (sym (append_assoc (take i new) (get_or new i d ∷ []) (drop (i + 1) old)))
         ∙ ap (λ (ys : List X). ys ++ drop (i + 1) old) (sym (take_more new i d (omega arith)))
 
-    -- the place that is written next still holds the old element
+    -- the place that is written next still has the old element
     pub over_at : (out : List X) (i : ℕ) → i < length old → out ≡ take i new ++ drop i old → get_or out i d ≡ get_or old i d
     over_at out i l h =
         ap (λ (ys : List X). get_or ys i d) h

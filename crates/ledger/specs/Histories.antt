@@ -4,7 +4,7 @@ use Rattle.cents.specs.Cutting.{sum_z}
 use Rattle.tariff.specs.Heads.{at, sums}
 use Rattle.ledger.specs.Readings.{Reading, units_read}
 use Rattle.ledger.specs.Files.{part}
-use Rattle.ledger.specs.Standings.{no_heads}
+use Rattle.ledger.specs.States.{no_heads}
 use Rattle.ledger.specs.Billing.{Cut}
 
 -- an accepted call, by what it was handed and by the cells that it wrote
@@ -35,14 +35,14 @@ cents_billed (billed b cells ∷ h) = sum_z cells +ℤ cents_billed h
 cents_billed (resettled c b cells ∷ h) = sum_z cells +ℤ cents_billed h
 
 -- the cells of the component at place c in a bill's statement
-abbrev pub row_of : Reading → List ℤ → ℕ → List ℤ
-row_of b cells c = part (c * b.count) b.count cells
+abbrev pub component_cells : Reading → List ℤ → ℕ → List ℤ
+component_cells b cells c = part (c * b.count) b.count cells
 
 -- a component's cents billed
 abbrev pub billed_of : ℕ → History → ℤ
 billed_of c [] = pos 0
 billed_of c (booked amounts ∷ h) = billed_of c h
-billed_of c (billed b cells ∷ h) = sum_z (row_of b cells c) +ℤ billed_of c h
+billed_of c (billed b cells ∷ h) = sum_z (component_cells b cells c) +ℤ billed_of c h
 billed_of c (resettled d b cells ∷ h) = cond (d == c) (sum_z cells) (pos 0) +ℤ billed_of c h
 
 -- what was booked since the last bill, head by head
@@ -67,17 +67,17 @@ pool_of cut k c (billed b cells ∷ h) = cond (b.month == k) (cost_of cut c (bil
 pool_of cut k c (resettled d b cells ∷ h) = pool_of cut k c h
 
 -- the units last read for a month and component
-abbrev pub units_of : ℕ → ℕ → History → List ℕ
-units_of k c [] = []
-units_of k c (booked amounts ∷ h) = units_of k c h
-units_of k c (billed b cells ∷ h) = cond (b.month == k) (units_read b c) (units_of k c h)
-units_of k c (resettled d b cells ∷ h) = cond (b.month == k && d == c) (units_read b c) (units_of k c h)
+abbrev pub units_last_read : ℕ → ℕ → History → List ℕ
+units_last_read k c [] = []
+units_last_read k c (booked amounts ∷ h) = units_last_read k c h
+units_last_read k c (billed b cells ∷ h) = cond (b.month == k) (units_read b c) (units_last_read k c h)
+units_last_read k c (resettled d b cells ∷ h) = cond (b.month == k && d == c) (units_read b c) (units_last_read k c h)
 
 -- the bill and the differences of a month, component and member together
 abbrev pub cents_of : ℕ → ℕ → ℕ → History → ℤ
 cents_of k c m [] = pos 0
 cents_of k c m (booked amounts ∷ h) = cents_of k c m h
-cents_of k c m (billed b cells ∷ h) = cond (b.month == k) (at (row_of b cells c) m) (pos 0) +ℤ cents_of k c m h
+cents_of k c m (billed b cells ∷ h) = cond (b.month == k) (at (component_cells b cells c) m) (pos 0) +ℤ cents_of k c m h
 cents_of k c m (resettled d b cells ∷ h) = cond (b.month == k && d == c) (at cells m) (pos 0) +ℤ cents_of k c m h
 
 -- the months billed, the latest first

@@ -1,6 +1,6 @@
 pub mod Readings
 pub mod Files
-pub mod Standings
+pub mod States
 pub mod Billing
 pub mod Resettling
 pub mod Booking

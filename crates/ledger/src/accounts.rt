@@ -1,22 +1,22 @@
 //! The thirteen accounts of a ledger.
 ghost use Rattle.std.specs.Prelude.{◌≡◌, ℕ, ◌%◌, ◌≤◌, unsigned_abs};
-ghost use Rattle.tariff.specs.Heads.{sums};
 ghost use Rattle.tariff.specs.Costs.{Bounded};
-ghost use Rattle.ledger.specs.Files.{row_at};
-ghost use Rattle.ledger.specs.Standings.{account_at, balances, is_on_file, opened};
-ghost use Rattle.ledger.specs.Billing.{closed};
+ghost use Rattle.ledger.specs.Files.{row_start};
+ghost use Rattle.ledger.specs.States.{account_at, balances, is_on_file, opened};
+ghost use Rattle.ledger.specs.Billing.{closed, pools_of};
 ghost use Rattle.ledger.specs.Resettling.{settled};
 
 use crate::account::Account;
-use charges_text::charges::ComponentCharge;
+use limits::{LAST_MONTH, MONTHS_ON_FILE, MOST_CENTS, MOST_COST};
+use statement::charge::ComponentCharge;
 use statement::component::Component;
 use std::array;
 
-/// The slot of a month on file: six slots, in turn.
+/// The slot of a month on file: the slots in turn.
 pub(crate) fn slot_of(month: u32) -> usize
-    ensures { result ≡ month % 6 }
+    ensures { result ≡ month % MONTHS_ON_FILE }
 {
-    (month % 6) as usize
+    month as usize % MONTHS_ON_FILE
 }
 
 /// How many members there are, the first month, the open month, and an account for each component.
@@ -35,7 +35,7 @@ impl Accounts {
     {
         let account = Account {
             balance: 0,
-            pools: [0; 6],
+            pools: [0; MONTHS_ON_FILE],
         };
         Accounts {
             members,
@@ -45,32 +45,32 @@ impl Accounts {
         }
     }
 
-    /// Whether a month is one of the six latest billed.
+    /// Whether a month is on file, as one of the latest billed.
     pub(crate) fn is_on_file(&self, month: u32) -> bool
         ensures { result ≡ is_on_file self.now month }
     {
-        self.first <= month && month < self.month && self.month - month <= 6
+        self.first <= month && month < self.month && (self.month - month) as usize <= MONTHS_ON_FILE
     }
 
     /// Where the row of a month and of a component begins in the file.
     pub(crate) fn row_start(&self, month: u32, component: Component) -> usize
-        ensures { result ≡ row_at self.now.members month component.place }
+        ensures { result ≡ row_start self.now.members month component.place }
     {
         (slot_of(month) * 13 + component.place) * self.members as usize
     }
 
     /// The pools of a bill, from the components' costs.
     pub(crate) fn pools(&self, costs: [i64; 13]) -> [i64; 13]
-        requires balances { (c : ℕ) → unsigned_abs (account_at self.now c).balance ≤ 4000000000 }
-        requires costs { Bounded 12000000000 costs }
-        ensures { result ≡ sums costs (balances self.now) }
+        requires balances { (c : ℕ) → unsigned_abs (account_at self.now c).balance ≤ MOST_CENTS }
+        requires costs { Bounded MOST_COST costs }
+        ensures { result ≡ pools_of costs self.now }
     {
         array::from_fn(|place| self.rows[place].pool(costs[place]))
     }
 
     /// Closes the open month on its charges, and opens the next.
     pub(crate) fn close(&mut self, charges: [ComponentCharge; 13])
-        requires month { self.old.month ≤ 35999 }
+        requires month { self.old.month ≤ LAST_MONTH }
         ensures { self.new ≡ closed charges self.old }
     {
         let slot = slot_of(self.month);

@@ -1,25 +1,24 @@
 //! What a bill writes.
-ghost use Rattle.std.specs.Prelude.{◌≡◌, ℕ, ◌≤◌, length, MatchResult, unsigned_abs};
+ghost use Rattle.std.specs.Prelude.{◌≡◌, ℕ, ◌≤◌, length, IfOk, MatchResult, unsigned_abs};
 ghost use Rattle.refusal.specs.Answers.{answer_by};
-ghost use Rattle.tariff.specs.Heads.{sums};
 ghost use Rattle.tariff.specs.Costs.{Bounded};
-ghost use Rattle.statement.specs.Charges.{components, cells};
-ghost use Rattle.ledger.specs.Readings.{reading_of, rows_read};
-ghost use Rattle.ledger.specs.Standings.{account_at, balances};
-ghost use Rattle.ledger.specs.Billing.{bill_check, slot_written};
+ghost use Rattle.ledger.specs.Readings.{reading_of};
+ghost use Rattle.ledger.specs.States.{account_at};
+ghost use Rattle.ledger.specs.Billing.{pools_of, bill_check, charges_billed, cells_billed, slot_written};
 
 use crate::accounts::Accounts;
 use crate::line::Line;
 use crate::rows::write_slot;
 use book::book::Book;
-use charges_text::charges::ComponentCharge;
+use limits::{MOST_CENTS, MOST_COST, MOST_MEMBERS};
 use refusal::{Fault, Layer, Refusal};
 use sharing::rule::Rule;
+use statement::charge::ComponentCharge;
 use statement::component::Component;
 use statement::month::charge_month;
 use statement::reading::read_book;
 
-/// Tests memory and book, reads the book into a row for each member, charges the pools, and writes the
+/// Tests file, statement and book, reads the book into a row for each member, charges the pools, and writes the
 /// open month's lines. Refused, file and statement stay.
 pub(crate) fn charge_book<R: Rule, B: Book>(
     rule: &R,
@@ -29,11 +28,19 @@ pub(crate) fn charge_book<R: Rule, B: Book>(
     file: &mut [Line],
     statement: &mut [i64],
 ) -> Result<[ComponentCharge; 13], Fault>
-    requires members { accounts.now.members ≤ 200 }
-    requires balances { (c : ℕ) → unsigned_abs (account_at accounts.now c).balance ≤ 4000000000 }
-    requires costs { Bounded 12000000000 costs }
-    ensures told { answer_by (λ _. tt) result ≡ bill_check accounts.now (sums costs (balances accounts.now)) (reading_of B.Book book.now) (length file.old) (length statement.old) }
-    ensures done { MatchResult result (λ charges. (charges ≡ components (R.shares rule.now) (sums costs (balances accounts.now)) (rows_read (reading_of B.Book book.now)) 13) × (statement.new ≡ cells (R.shares rule.now) (sums costs (balances accounts.now)) (rows_read (reading_of B.Book book.now)) 13) × (file.new ≡ slot_written accounts.now (reading_of B.Book book.now) statement.new file.old)) (λ _. (statement.new ≡ statement.old) × (file.new ≡ file.old)) }
+    requires members { accounts.now.members ≤ MOST_MEMBERS }
+    requires balances { (c : ℕ) → unsigned_abs (account_at accounts.now c).balance ≤ MOST_CENTS }
+    requires costs { Bounded MOST_COST costs }
+    ensures answered { answer_by (λ _. tt) result
+        ≡ bill_check accounts.now (pools_of costs accounts.now) (reading_of B.Book book.now) (length file.old) (length statement.old) }
+    ensures charges { IfOk result (λ charges. charges
+        ≡ charges_billed (R.shares rule.now) (pools_of costs accounts.now) (reading_of B.Book book.now)) }
+    ensures cells { MatchResult result
+        (λ _. statement.new ≡ cells_billed (R.shares rule.now) (pools_of costs accounts.now) (reading_of B.Book book.now))
+        (λ _. statement.new ≡ statement.old) }
+    ensures file { MatchResult result
+        (λ _. file.new ≡ slot_written accounts.now (reading_of B.Book book.now) statement.new file.old)
+        (λ _. file.new ≡ file.old) }
 {
     let members = accounts.members;
     let wanted = 13 * members as usize;
@@ -42,8 +49,8 @@ pub(crate) fn charge_book<R: Rule, B: Book>(
         return Err(Layer::Ledger.refuses(Refusal::Month));
     }
     let pools = accounts.pools(costs);
-    // No heap: memory for the 200 members at most.
-    let mut units = [[0u32; 7]; 200];
+    // A row for each member, as many as there may be.
+    let mut units = [[0u32; 7]; MOST_MEMBERS];
     let units = &mut units[..members as usize];
     read_book(book, units)?;
     let charges = charge_month(rule, pools, units, statement)?;

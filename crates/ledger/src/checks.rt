@@ -4,7 +4,7 @@ ghost use Rattle.refusal.specs.Answers.{answer};
 ghost use Rattle.ledger.specs.Billing.{memory_rule};
 
 use crate::accounts::Accounts;
-use crate::line::Line;
+use crate::line::{Line, MEMBER_LINES};
 use book::book::Book;
 use refusal::{Fault, Layer, Refusal};
 
@@ -19,7 +19,7 @@ impl Accounts {
     ) -> Result<(), Fault>
         ensures { answer result ≡ memory_rule self.now.members (length file.now) (length statement.now) wanted (B.count book.now) }
     {
-        if file.len() != 78 * self.members as usize {
+        if file.len() != MEMBER_LINES * self.members as usize {
             return Err(Layer::Ledger.refuses(Refusal::Length));
         }
         if statement.len() != wanted {

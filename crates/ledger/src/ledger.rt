@@ -5,25 +5,26 @@ mod opening;
 mod reading;
 mod resettling;
 
-ghost use Rattle.std.specs.Prelude.{◌≡◌, ℕ, ◌<◌, ◌≤◌, length, unsigned_abs};
-ghost use Rattle.ledger.specs.Standings.{account_at};
+ghost use Rattle.std.specs.Prelude.{◌≡◌, ◌+◌, ℕ, ◌<◌, ◌≤◌, length, unsigned_abs};
+ghost use Rattle.ledger.specs.States.{account_at};
+ghost use Rattle.limits.specs.declared.TheConstants.{FIRST_MONTH, LAST_MONTH, MONTHS_ON_FILE, MOST_CENTS, MOST_MEMBERS};
 
 use crate::accounts::Accounts;
 use sharing::rule::Rule;
 use tariff::heads::Heads;
 use tariff::sheet::Sheet;
 
-/// The ledger of 1 to 200 members.
+/// The ledger of one member or more, at most `MOST_MEMBERS`.
 #[derive(Drop)]
 pub struct Ledger<R: Rule> {
     rule: R,
     sheet: Sheet,
     heads: Heads,
     accounts: Accounts,
-    // The accounts are plain records, as specs/ writes them: the ledger keeps what is true of them,
-    // and a function that takes accounts alone asks for the bound on balances in `requires`.
-    ghost peopled: { (1 ≤ accounts.members) × (accounts.members ≤ 200) },
-    ghost dated: { (24277 ≤ accounts.first) × (accounts.first ≤ accounts.month) × (accounts.month ≤ 36000) },
-    ghost slots: { (c : ℕ) → c < 13 → length (account_at accounts c).pools ≡ 6 },
-    ghost small: { (c : ℕ) → unsigned_abs (account_at accounts c).balance ≤ 4000000000 },
+    // The accounts are plain records: the ledger keeps what is always true of them.
+    ghost count_in_range: { (1 ≤ accounts.members) × (accounts.members ≤ MOST_MEMBERS) },
+    ghost month_in_range: { (FIRST_MONTH ≤ accounts.first) × (accounts.first ≤ accounts.month)
+        × (accounts.month ≤ (LAST_MONTH + 1)) },
+    ghost slots: { (c : ℕ) → c < 13 → length (account_at accounts c).pools ≡ MONTHS_ON_FILE },
+    ghost small: { (c : ℕ) → unsigned_abs (account_at accounts c).balance ≤ MOST_CENTS },
 }

@@ -1,5 +1,6 @@
 //! One resettlement.
 ghost use Rattle.std.specs.Prelude.{◌≤◌, unsigned_abs};
+ghost use Rattle.limits.specs.declared.TheConstants.{MOST_CENTS};
 
 use statement::component::Component;
 
@@ -9,5 +10,5 @@ pub(crate) struct Resettlement {
     pub(crate) component: Component,
     pub(crate) pool: i64,
     pub(crate) balance: i64,
-    ghost small: { unsigned_abs balance ≤ 4000000000 },
+    ghost small: { unsigned_abs balance ≤ MOST_CENTS },
 }

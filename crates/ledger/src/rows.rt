@@ -1,16 +1,16 @@
 //! The lines that a bill and a resettlement write.
 ghost use Rattle.std.specs.Prelude.{◌≡◌, ℕ, ◌*◌, ◌<◌, List, length};
-ghost use Rattle.ledger.specs.Files.{Tells, lines_of, units_laid};
+ghost use Rattle.ledger.specs.Files.{GivesUnits, lines_of, units_by_component};
 
 use crate::line::Line;
 use statement::component::Component;
 
-/// Writes lines of units and cents, where a function tells the units of each place.
+/// Writes lines of units and cents, where a function gives the units of each place.
 // A function of the place, so that no column is copied.
 pub(crate) fn write_lines<F: Fn(usize) -> u32>(units: F, cents: &[i64], lines: &mut [Line])
     requires units { (i : ℕ) → i < length cents.now → F.pre units i }
     requires lines { length lines.old ≡ length cents.now }
-    ensures { (us : List ℕ) → length us ≡ length cents.now → Tells (F.post units) us → lines.new ≡ lines_of us cents.now }
+    ensures { (us : List ℕ) → length us ≡ length cents.now → GivesUnits (F.post units) us → lines.new ≡ lines_of us cents.now }
 {
     for (i, cents) in cents.iter().enumerate() {
         lines[i] = Line {
@@ -24,10 +24,9 @@ pub(crate) fn write_lines<F: Fn(usize) -> u32>(units: F, cents: &[i64], lines: &
 pub(crate) fn write_slot(units: &[[u32; 7]], cells: &[i64], slot: &mut [Line])
     requires cells { length cells.now ≡ 13 * length units.now }
     requires slot { length slot.old ≡ 13 * length units.now }
-    ensures { slot.new ≡ lines_of (units_laid units.now 13) cells.now }
+    ensures { slot.new ≡ lines_of (units_by_component units.now 13) cells.now }
 {
     let members = units.len();
-    // The rows are taken by their places: after `chunks_mut` nothing would be known of the slot.
     for place in 0..13 {
         let start = place * members;
         let end = start + members;

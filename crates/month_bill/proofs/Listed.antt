@@ -2,26 +2,28 @@
 use Rattle.std.proofs.Common.{◌≡◌, ℕ, zero, suc, ◌+◌, ◌*◌, ◌<◌, ◌≤◌, Bool, true, false, cond, leb, ltb, List, [], ◌∷◌, ◌++◌, map, length, get_or, take, drop, replicate, ℤ, pos, Option, sym, refl, ap, ◌∙◌, arith}
 use Rattle.std.proofs.lemmas.List.{drop_more, take-map, get_or-take, length-take-le}
 use Rattle.std.proofs.lemmas.Bool.{cond-true, le-leb, le-ltb}
-use Rattle.refusal.specs.Answers.{Told, done, refused}
+use Rattle.refusal.specs.Answers.{Answer, done, refused}
 use Rattle.refusal.proofs.Apart.{refused_done}
 use Rattle.cents.proofs.Tabulated.{tabulated}
 use Rattle.refusal.specs.declared.Layer.TheVariants as layer
 use Rattle.units.specs.declared.facts.Facts.{Facts}
 use Rattle.units.specs.Kinds.{lawful, kinds, units_of}
 use Rattle.cents.proofs.Options.{cond_some}
-use Rattle.bottom_books.specs.Tables.{cell, dated, peopled, rows_rule, table_rule}
-use Rattle.bottom_books.proofs.Small.{parted}
+use Rattle.bottom_books.specs.Tables.{cell, rows_rule, table_rule}
+use Rattle.limits.specs.Ranges.{month_lawful, count_lawful}
+use Rattle.bottom_books.proofs.UnitsInRange.{parted}
 use Rattle.statement.specs.Readings.{book_row, book_rows}
 use Rattle.month_text.specs.declared.month.Member.{Member}
 use Rattle.month_text.specs.declared.month.Month.{Month}
 use Rattle.charges_text.specs.declared.charges.MemberCharge.{MemberCharge}
 use Rattle.statement.specs.Charges.{members_in, member_charges}
 use Rattle.month_bill.specs.Members.{facts_of_all, units_rule, month_units, member_rows, idle_row, place_rows}
+use Rattle.limits.specs.declared.TheConstants.{MOST_TEXT_MEMBERS}
 
--- a month's units are told by the table of its facts
-pub units_told : (m : Month) (facts : List Facts) → m.count ≤ 32 → facts ≡ facts_of_all m.members → table_rule units_of m.month (take m.count facts) ≡ month_units m
-units_told m facts l e =
-    rw (e, take-map (λ (w : Member). w.facts) m.count m.members) (sym (cond-true (leb m.count 32) _ _ (le-leb m.count 32 l)))
+-- a month's units are those of the table of its facts
+pub units_of_facts : (m : Month) (facts : List Facts) → m.count ≤ MOST_TEXT_MEMBERS → facts ≡ facts_of_all m.members → table_rule units_of m.month (take m.count facts) ≡ month_units m
+units_of_facts m facts l e =
+    rw (e, take-map (λ (w : Member). w.facts) m.count m.members) (sym (cond-true (leb m.count MOST_TEXT_MEMBERS) _ _ (le-leb m.count MOST_TEXT_MEMBERS l)))
 
 -- facts make rows of seven
 seven_rows : (facts : List Facts) (out : List (List ℕ)) → rows_rule units_of facts ≡ done out → (i : ℕ) → i < length out → length (get_or out i []) ≡ 7
@@ -41,9 +43,9 @@ rows_read rows m (suc n) l h =
     rw (r, t) (sym (ap (take (suc n)) (drop_more rows m [] (omega arith))))
 
 passed_rows : {R : Type 0} (reads : R → Option (List ℕ)) (month : ℕ) (rows : List R) (out : List (List ℕ)) → table_rule reads month rows ≡ done out → rows_rule reads rows ≡ done out
-passed_rows reads month rows out e = twice (dated month) (peopled (length rows)) (rows_rule reads rows) out e
+passed_rows reads month rows out e = twice (month_lawful month) (count_lawful (length rows)) (rows_rule reads rows) out e
   where
-    twice : (a b : Bool) (t : Told (List (List ℕ))) (v : List (List ℕ)) → cond a (cond b t (refused 4 layer.Book 0)) (refused 2 layer.Book 0) ≡ done v → t ≡ done v
+    twice : (a b : Bool) (t : Answer (List (List ℕ))) (v : List (List ℕ)) → cond a (cond b t (refused 4 layer.Book 0)) (refused 2 layer.Book 0) ≡ done v → t ≡ done v
     twice true true t v q = q
     twice true false t v q = absurd (refused_done 4 layer.Book 0 v q)
     twice false b t v q = absurd (refused_done 2 layer.Book 0 v q)
@@ -57,9 +59,9 @@ book_read month n facts rows l e =
     e ∙ ap done (sym (rows_read rows 0 n (omega arith) f))
 
 -- the same of a month's book
-pub units_read : (m : Month) (rows : List (List ℕ)) (n : ℕ) → n ≡ m.count → m.count ≤ 32 → m.count ≤ length rows → done (take m.count rows) ≡ month_units m → done (book_rows (cell rows) 0 n) ≡ month_units m
+pub units_read : (m : Month) (rows : List (List ℕ)) (n : ℕ) → n ≡ m.count → m.count ≤ MOST_TEXT_MEMBERS → m.count ≤ length rows → done (take m.count rows) ≡ month_units m → done (book_rows (cell rows) 0 n) ≡ month_units m
 units_read m rows n k l h e =
-    let u = cond-true (leb m.count 32) (units_rule m.month (take m.count m.members)) (refused 4 layer.Ledger 0) (le-leb m.count 32 l) in
+    let u = cond-true (leb m.count MOST_TEXT_MEMBERS) (units_rule m.month (take m.count m.members)) (refused 4 layer.Ledger 0) (le-leb m.count MOST_TEXT_MEMBERS l) in
     ap (λ (c : ℕ). done (book_rows (cell rows) 0 c)) k ∙ sym (book_read m.month m.count (facts_of_all (take m.count m.members)) rows h (sym u ∙ sym e)) ∙ sym u
 
 -- the rows of the first members
@@ -92,5 +94,5 @@ rows_split statement i (suc n) [] l = refl
 rows_split statement i zero (m ∷ members) l = rw (none_paid statement i (omega arith), rows_split statement (i + 1) zero members (omega arith)) refl
 rows_split statement i (suc n) (m ∷ members) l = rw (rows_split statement (i + 1) n members (omega arith)) refl
 
-pub places_told : (statement : List ℤ) (m : Month) → length statement ≡ 13 * m.count → member_rows statement 0 m.members ≡ place_rows statement m
-places_told statement m e = rows_split statement 0 m.count m.members (omega (arith, e))
+pub rows_of_places : (statement : List ℤ) (m : Month) → length statement ≡ 13 * m.count → member_rows statement 0 m.members ≡ place_rows statement m
+rows_of_places statement m e = rows_split statement 0 m.count m.members (omega (arith, e))

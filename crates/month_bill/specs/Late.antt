@@ -1,6 +1,6 @@
 -- What may still refuse the bill of a month that was read.
 use Rattle.std.specs.Prelude.{◌≡◌, ℕ, Bool, true, false, ◌||◌, List, ◌==◌}
-use Rattle.refusal.specs.Answers.{Told, done, refused}
+use Rattle.refusal.specs.Answers.{Answer, done, refused}
 use Rattle.refusal.specs.declared.Layer.{Layer}
 use Rattle.refusal.specs.declared.Layer.TheVariants as layer
 use Rattle.month_text.specs.declared.month.Month.{Month}
@@ -17,7 +17,7 @@ late_refusal n layer.Ledger = n == 8 || n == 9
 late_refusal n layer.Ferc = false
 
 -- nothing else refuses
-abbrev pub OnlyLate : {T : Type 0} → Told T → Type 0
+abbrev pub OnlyLate : {T : Type 0} → Answer T → Type 0
 OnlyLate (done v) = Unit {0}
 OnlyLate (refused n l p) = late_refusal n l ≡ true
 

@@ -3,7 +3,8 @@ ghost use Rattle.std.specs.Prelude.{◌≡◌, ◌≤◌, take, IfOk, string_byt
 ghost use Rattle.refusal.specs.Answers.{answer_by};
 ghost use Rattle.charges_text.specs.Printed.{printed};
 ghost use Rattle.month_bill.specs.Late.{BillOnceRead};
-ghost use Rattle.month_bill.specs.Outcome.{billed_text, answer_text};
+ghost use Rattle.month_bill.specs.Outcome.{billed_text, month_answer};
+ghost use Rattle.limits.specs.declared.TheConstants.{MOST_TEXT_MEMBERS};
 
 use crate::bill::{Bill, bill_month};
 use charges_text::printer::charges_text;
@@ -15,8 +16,8 @@ use std::alloc::{AllocError, Global};
 
 /// The month of a text and its bill.
 fn billed(text: &[u8]) -> Result<(Month, Bill), Fault>
-    ensures told { answer_by (λ b. printed b.0.month b.1.components (take b.0.count b.1.members)) result ≡ billed_text text.now }
-    ensures few { IfOk result (λ b. b.0.count ≤ 32) }
+    ensures answered { answer_by (λ b. printed b.0.month b.1.components (take b.0.count b.1.members)) result ≡ billed_text text.now }
+    ensures count { IfOk result (λ b. b.0.count ≤ MOST_TEXT_MEMBERS) }
     ensures late { BillOnceRead text.now }
 {
     let month = read(text)?;
@@ -26,7 +27,7 @@ fn billed(text: &[u8]) -> Result<(Month, Bill), Fault>
 
 /// The charges of a month's text, or the line of its refusal.
 pub fn answer(heap: Global, text: &[u8]) -> Result<String, AllocError>
-    ensures told { IfOk result (λ said. string_bytes said ≡ answer_text text.now) }
+    ensures answered { IfOk result (λ lines. string_bytes lines ≡ month_answer text.now) }
     ensures late { BillOnceRead text.now }
 {
     match billed(text) {

@@ -1,7 +1,7 @@
 //! A month's sheet, and its costs on a new ledger.
 ghost use Rattle.std.specs.Prelude.{◌≡◌, IfOk};
 ghost use Rattle.refusal.specs.Answers.{answer_by, next};
-ghost use Rattle.ledger.specs.Standings.{opened, open_rule};
+ghost use Rattle.ledger.specs.States.{opened, opening_rule};
 ghost use Rattle.month_bill.specs.Bills.{month_sheet, month_heads};
 
 use ledger::ledger::Ledger;
@@ -31,8 +31,10 @@ pub(crate) fn month_ledger<R: Rule + Copy + Drop>(
     members: u32,
     month: &Month,
 ) -> Result<Ledger<R>, Fault>
-    ensures told { answer_by (λ ledger. ledger.heads.amounts) result ≡ next (open_rule members month.now.month) (λ _. month_heads month.now) }
-    ensures opened { IfOk result (λ ledger. (ledger.rule ≡ rule) × (ledger.sheet ≡ sheet) × (ledger.accounts ≡ opened members month.now.month)) }
+    ensures answered { answer_by (λ ledger. ledger.heads.amounts) result ≡ next (opening_rule members month.now.month) (λ _. month_heads month.now) }
+    ensures rule { IfOk result (λ ledger. ledger.rule ≡ rule) }
+    ensures sheet { IfOk result (λ ledger. ledger.sheet ≡ sheet) }
+    ensures opened { IfOk result (λ ledger. ledger.accounts ≡ opened members month.now.month) }
 {
     let mut ledger = Ledger::blank(rule);
     ledger.open(rule, sheet, members, month.month)?;

@@ -5,6 +5,7 @@ ghost use Rattle.month_bill.specs.Members.{facts_of_all, month_units, member_row
 
 use bottom_books::fact_book::FactBook;
 use charges_text::charges::MemberCharge;
+use limits::MOST_TEXT_MEMBERS;
 use month_text::month::{Member, Month};
 use refusal::{Fault, Layer, Refusal};
 use statement::month::member_charges;
@@ -12,19 +13,19 @@ use std::array;
 use units::facts::Facts;
 
 /// The facts of all members.
-fn all_facts(members: [Member; 32]) -> [Facts; 32]
+fn all_facts(members: [Member; MOST_TEXT_MEMBERS]) -> [Facts; MOST_TEXT_MEMBERS]
     ensures { result ≡ facts_of_all members }
 {
     members.map(|member| member.facts)
 }
 
-/// The fact book of a month; refused where the month has more members than places.
+/// The fact book of a month; refused where the month has more members than a text may have.
 pub fn month_book(month: &Month) -> Result<FactBook, Fault>
-    ensures told { answer_by (λ book. take month.now.count book.units.rows) result ≡ month_units month.now }
+    ensures answered { answer_by (λ book. take month.now.count book.units.rows) result ≡ month_units month.now }
     ensures made { IfOk result (λ book. (book.units.month ≡ month.now.month) × (book.units.count ≡ month.now.count)) }
-    ensures few { OnOk result (month.now.count ≤ 32) }
+    ensures count { OnOk result (month.now.count ≤ MOST_TEXT_MEMBERS) }
 {
-    if month.count > 32 {
+    if month.count > MOST_TEXT_MEMBERS {
         return Err(Layer::Ledger.refuses(Refusal::Count));
     }
     let facts = all_facts(month.members);
@@ -34,7 +35,10 @@ pub fn month_book(month: &Month) -> Result<FactBook, Fault>
 }
 
 /// What the members of all places pay by a statement.
-pub fn member_rows(members: [Member; 32], statement: &[i64]) -> [MemberCharge; 32]
+pub fn member_rows(
+    members: [Member; MOST_TEXT_MEMBERS],
+    statement: &[i64],
+) -> [MemberCharge; MOST_TEXT_MEMBERS]
     ensures { result ≡ member_rows statement.now 0 members }
 {
     array::from_fn(|i| MemberCharge {

@@ -3,12 +3,13 @@ use Rattle.std.proofs.Common.{◌≡◌, ℕ, zero, suc, ◌+◌, ◌-◌, ◌*�
 use Rattle.std.proofs.lemmas.List.{take_rest}
 use Rattle.std.proofs.lemmas.Bool.Decides.{nat_tests}
 use Rattle.month_text.specs.Numbers.{bind, minus, digits_on, number_at, integer_at}
+use Rattle.month_text.specs.declared.month.TheConstants.{MOST_NUMBER}
 use Rattle.month_text.specs.Lines.{past}
 
 abbrev pub rest : List ℕ → List ℕ
 rest s = take (length s - 1) (drop 1 s)
 
-pub on_digit : (n : ℕ) (s : List ℕ) → 48 ≤ get_or s 0 0 → get_or s 0 0 ≤ 57 → 0 < n → n < 10000000000 → digits_on n s ≡ digits_on (n * 10 + (get_or s 0 0 - 48)) (rest s)
+pub on_digit : (n : ℕ) (s : List ℕ) → 48 ≤ get_or s 0 0 → get_or s 0 0 ≤ 57 → 0 < n → n * 10 ≤ MOST_NUMBER → digits_on n s ≡ digits_on (n * 10 + (get_or s 0 0 - 48)) (rest s)
 on_digit n [] a b p q = absurd (omega arith)
 on_digit n (x ∷ xs) a b p q = rw take_rest (grind (arith, nat_tests))
 

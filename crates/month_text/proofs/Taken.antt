@@ -1,10 +1,11 @@
 -- What is read off the front of a text is the spelling of what was read.
-use Rattle.std.proofs.Common.{◌≡◌, ℕ, zero, suc, ◌+◌, ◌%◌, ◌<◌, Bool, true, false, cond, ◌&&◌, eqb, List, [], ◌∷◌, ◌++◌, length, ℤ, pos, negsuc, Some, None, decimal, sym, refl, ap, ◌∙◌, subst, append_assoc, arith}
+use Rattle.std.proofs.Common.{◌≡◌, ℕ, zero, suc, ◌+◌, ◌%◌, ◌<◌, ◌≤◌, Bool, true, false, cond, ◌&&◌, eqb, List, [], ◌∷◌, ◌++◌, length, ℤ, pos, negsuc, Some, None, decimal, sym, refl, ap, ◌∙◌, subst, append_assoc, arith}
 use Rattle.std.specs.Fmt.{signed_decimal}
 use Rattle.std.proofs.lemmas.Fmt.{decimal_by_steps}
 use Rattle.std.proofs.lemmas.List.Sums.{sum_by-append, sum_by_push}
 use Rattle.std.proofs.lemmas.Bool.{eqb-true, ne_eqb, and_parts}
 use Rattle.month_text.specs.Numbers.{bind, minus, number_at, integer_at}
+use Rattle.month_text.specs.declared.month.TheConstants.{MOST_NUMBER}
 use Rattle.month_text.specs.Lines.{past, stop, fields_at, line_at}
 use Rattle.month_text.specs.OneSpelling.{spelled_fields, spelled_line, breaks}
 use Rattle.month_text.proofs.Accepted.{bind_some}
@@ -40,7 +41,7 @@ push_unbroken ds c h e =
     let p = sum_by_push (λ y. cond (eqb y 10) 1 0) ds c in
     omega (arith, p, e, z)
 
-decimal_unbroken : (n : ℕ) → n < 100000000000 → breaks (decimal n) ≡ 0
+decimal_unbroken : (n : ℕ) → n ≤ MOST_NUMBER → breaks (decimal n) ≡ 0
 decimal_unbroken n small =
     decimal_by_steps (λ m ds. breaks ds ≡ 0) (λ m l. push_unbroken [] (48 + m) (omega arith) refl) (λ m ds l h. push_unbroken ds (48 + m % 10) (omega arith) h) n (omega arith)
 

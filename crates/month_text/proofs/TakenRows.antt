@@ -6,17 +6,18 @@ use Rattle.std.proofs.lemmas.Option.{cond_some}
 use Rattle.cents.proofs.Tabulated.{tabulated}
 use Rattle.std.specs.List.{list_all}
 use Rattle.refusal.specs.declared.Layer.{Layer}
-use Rattle.refusal.specs.Answers.{Told, next}
+use Rattle.refusal.specs.Answers.{Answer, next}
 use Rattle.month_text.specs.declared.month.Member.{Member}
 use Rattle.month_text.specs.Numbers.{bind}
 use Rattle.month_text.specs.Lines.{line_at}
-use Rattle.month_text.specs.Ranges.{out_of_range, off_balance, or_else, each, natural_in, amount_in, number_at_line, row_at, amounts_at, weights_at}
+use Rattle.month_text.specs.Ranges.{out_of_range, off_balance, or_else, each, natural_in, amount_in, number_at_line, naturals_at, amounts_at, weights_at}
 use Rattle.month_text.specs.Members.{member_of, blank, member_lawful, member_at, members_at, places_at}
 use Rattle.month_text.specs.OneSpelling.{spelled_line, row_of, spelled_member, spelled_members, breaks}
 use Rattle.month_text.proofs.Accepted.{bind_some, next_done, test_done, members_kept}
 use Rattle.month_text.proofs.Taken.{Takes, both, LineTaken, line_takes}
+use Rattle.limits.specs.declared.TheConstants.{MOST_FACT, MOST_TEXT_MEMBERS}
 
-pub or_done : {X T : Type 0} (o : Option X) (n : ℕ) (l : Layer) (p : ℕ) (k : X → Told T) (v : T) → or_else o (Told.refused n l p) k ≡ Told.done v → (x : X) × (o ≡ Some x) × (k x ≡ Told.done v)
+pub or_done : {X T : Type 0} (o : Option X) (n : ℕ) (l : Layer) (p : ℕ) (k : X → Answer T) (v : T) → or_else o (Answer.refused n l p) k ≡ Answer.done v → (x : X) × (o ≡ Some x) × (k x ≡ Answer.done v)
 or_done None n l p k v e = absurd cc
 or_done (Some x) n l p k v e = (x, refl, e)
 
@@ -40,42 +41,42 @@ each_pos low high (z ∷ zs) ns e =
 abbrev pub NumberTaken : List ℕ → List ℕ → ℕ × List ℕ → Type 0
 NumberTaken key s v = Takes s (spelled_line key (pos v.0 ∷ [])) 1 v.1
 
-pub number_line_takes : (key : List ℕ) (low high line : ℕ) (s : List ℕ) (v : ℕ × List ℕ) → breaks key ≡ 0 → number_at_line key low high line s ≡ Told.done v → NumberTaken key s v
+pub number_line_takes : (key : List ℕ) (low high line : ℕ) (s : List ℕ) (v : ℕ × List ℕ) → breaks key ≡ 0 → number_at_line key low high line s ≡ Answer.done v → NumberTaken key s v
 number_line_takes key low high line s v h e =
-    let a = or_done (line_at key false 1 s) 1 Layer.Text line (λ p. or_else (natural_in low high (get_or p.0 0 (pos 0))) (out_of_range line) (λ n. Told.done (n, p.1))) v e in
-    let b = or_done (natural_in low high (get_or a.0.0 0 (pos 0))) 2 Layer.Text line (λ n. Told.done (n, a.0.1)) v a.2 in
+    let a = or_done (line_at key false 1 s) 1 Layer.Text line (λ p. or_else (natural_in low high (get_or p.0 0 (pos 0))) (out_of_range line) (λ n. Answer.done (n, p.1))) v e in
+    let b = or_done (natural_in low high (get_or a.0.0 0 (pos 0))) 2 Layer.Text line (λ n. Answer.done (n, a.0.1)) v a.2 in
     let d : (b.0, a.0.1) ≡ v = cc b.2 in
     let t = line_takes key false 0 s a.0 h a.1 in
     let one : a.0.0 ≡ pos b.0 ∷ [] = tabulated (pos 0) 1 a.0.0 t.many ∙ ap (λ (z : ℤ). z ∷ []) (natural_pos low high (get_or a.0.0 0 (pos 0)) b.0 b.1) in
     subst (NumberTaken key s) d (subst (λ (zs : List ℤ). Takes s (spelled_line key zs) 1 a.0.1) one t.taken)
 
-pub record RowTaken (key s : List ℕ) (k : ℕ) (v : List ℕ × List ℕ) : Type 0 where
+pub record NaturalsTaken (key s : List ℕ) (k : ℕ) (v : List ℕ × List ℕ) : Type 0 where
   pub taken : Takes s (spelled_line key (map pos v.0)) 1 v.1
   pub many : length v.0 ≡ k
 
-pub row_takes : (key : List ℕ) (left low high line : ℕ) (s : List ℕ) (v : List ℕ × List ℕ) → breaks key ≡ 0 → row_at key (suc left) low high line s ≡ Told.done v → RowTaken key s (suc left) v
-row_takes key left low high line s v h e =
-    let a = or_done (line_at key false (suc left) s) 1 Layer.Text line (λ p. or_else (each (natural_in low high) p.0) (out_of_range line) (λ ns. Told.done (ns, p.1))) v e in
-    let b = or_done (each (natural_in low high) a.0.0) 2 Layer.Text line (λ ns. Told.done (ns, a.0.1)) v a.2 in
+pub naturals_takes : (key : List ℕ) (left low high line : ℕ) (s : List ℕ) (v : List ℕ × List ℕ) → breaks key ≡ 0 → naturals_at key (suc left) low high line s ≡ Answer.done v → NaturalsTaken key s (suc left) v
+naturals_takes key left low high line s v h e =
+    let a = or_done (line_at key false (suc left) s) 1 Layer.Text line (λ p. or_else (each (natural_in low high) p.0) (out_of_range line) (λ ns. Answer.done (ns, p.1))) v e in
+    let b = or_done (each (natural_in low high) a.0.0) 2 Layer.Text line (λ ns. Answer.done (ns, a.0.1)) v a.2 in
     let d : (b.0, a.0.1) ≡ v = cc b.2 in
     let t = line_takes key false left s a.0 h a.1 in
     let n = each_pos low high a.0.0 b.0 b.1 in
     let m : length b.0 ≡ suc left = sym (length-map b.0 pos) ∙ ap length (sym n) ∙ t.many in
-    subst (RowTaken key s (suc left)) d (record { taken = subst (λ (zs : List ℤ). Takes s (spelled_line key zs) 1 a.0.1) n t.taken; many = m })
+    subst (NaturalsTaken key s (suc left)) d (record { taken = subst (λ (zs : List ℤ). Takes s (spelled_line key zs) 1 a.0.1) n t.taken; many = m })
 
-pub weights_takes : (key : List ℕ) (left line : ℕ) (s : List ℕ) (v : List ℕ × List ℕ) → breaks key ≡ 0 → weights_at key (suc left) line s ≡ Told.done v → RowTaken key s (suc left) v
+pub weights_takes : (key : List ℕ) (left line : ℕ) (s : List ℕ) (v : List ℕ × List ℕ) → breaks key ≡ 0 → weights_at key (suc left) line s ≡ Answer.done v → NaturalsTaken key s (suc left) v
 weights_takes key left line s v h e =
-    let a = next_done (row_at key (suc left) 0 1000 line s) (λ p. cond (eqb (sum p.0) 1000) (Told.done p) (off_balance line)) v e in
+    let a = next_done (naturals_at key (suc left) 0 1000 line s) (λ p. cond (eqb (sum p.0) 1000) (Answer.done p) (off_balance line)) v e in
     let b = test_done (eqb (sum a.0.0) 1000) a.0 v 3 Layer.Sheet line a.2 in
-    subst (RowTaken key s (suc left)) b.1 (row_takes key left 0 1000 line s a.0 h a.1)
+    subst (NaturalsTaken key s (suc left)) b.1 (naturals_takes key left 0 1000 line s a.0 h a.1)
 
-pub amounts_takes : (key : List ℕ) (left most line : ℕ) (s : List ℕ) (v : List ℤ × List ℕ) → breaks key ≡ 0 → amounts_at key (suc left) most line s ≡ Told.done v → LineTaken key s (suc left) v
+pub amounts_takes : (key : List ℕ) (left most line : ℕ) (s : List ℕ) (v : List ℤ × List ℕ) → breaks key ≡ 0 → amounts_at key (suc left) most line s ≡ Answer.done v → LineTaken key s (suc left) v
 amounts_takes key left most line s v h e =
-    let a = or_done (line_at key true (suc left) s) 1 Layer.Text line (λ p. cond (list_all (amount_in most) p.0) (Told.done p) (out_of_range line)) v e in
+    let a = or_done (line_at key true (suc left) s) 1 Layer.Text line (λ p. cond (list_all (amount_in most) p.0) (Answer.done p) (out_of_range line)) v e in
     let b = test_done (list_all (amount_in most) a.0.0) a.0 v 2 Layer.Text line a.2 in
     subst (LineTaken key s (suc left)) b.1 (line_takes key true left s a.0 h a.1)
 
--- a row of twelve numbers is told whole by its member
+-- twelve numbers are those of their member
 row_back : (row : List ℕ) → length row ≡ 12 → row_of (member_of row) ≡ row
 row_back [] e = absurd (omega arith)
 row_back (x ∷ xs) e = sym (tabulated 0 12 (x ∷ xs) e)
@@ -83,24 +84,24 @@ row_back (x ∷ xs) e = sym (tabulated 0 12 (x ∷ xs) e)
 abbrev MemberTaken : List ℕ → Member × List ℕ → Type 0
 MemberTaken s v = Takes s (spelled_member v.0) 1 v.1
 
-member_takes : (line last : ℕ) (s : List ℕ) (v : Member × List ℕ) → member_at line last s ≡ Told.done v → MemberTaken s v
+member_takes : (line last : ℕ) (s : List ℕ) (v : Member × List ℕ) → member_at line last s ≡ Answer.done v → MemberTaken s v
 member_takes line last s v e =
-    let a = next_done (row_at (codes "user") 12 0 100000000 line s) (λ p. cond (member_lawful last (member_of p.0)) (Told.done (member_of p.0, p.1)) (out_of_range line)) v e in
+    let a = next_done (naturals_at (codes "user") 12 0 MOST_FACT line s) (λ p. cond (member_lawful last (member_of p.0)) (Answer.done (member_of p.0, p.1)) (out_of_range line)) v e in
     let b = test_done (member_lawful last (member_of a.0.0)) (member_of a.0.0, a.0.1) v 2 Layer.Text line a.2 in
-    let t = row_takes (codes "user") 11 0 100000000 line s a.0 refl a.1 in
+    let t = naturals_takes (codes "user") 11 0 MOST_FACT line s a.0 refl a.1 in
     let r = sym (row_back a.0.0 t.many) in
     subst (MemberTaken s) b.1 (subst (λ (ns : List ℕ). Takes s (spelled_line (codes "user") (map pos ns)) 1 a.0.1) r t.taken)
 
 abbrev MembersTaken : List ℕ → ℕ → List Member × List ℕ → Type 0
 MembersTaken s count v = Takes s (spelled_members v.0) count v.1
 
-members_takes : (count line last : ℕ) (s : List ℕ) (v : List Member × List ℕ) → members_at count line last s ≡ Told.done v → MembersTaken s count v
+members_takes : (count line last : ℕ) (s : List ℕ) (v : List Member × List ℕ) → members_at count line last s ≡ Answer.done v → MembersTaken s count v
 members_takes zero line last s v e =
     let d : ([], s) ≡ v = cc in
     subst (MembersTaken s 0) d (record { front = refl; count = refl })
 members_takes (suc count) line last s v e =
-    let a = next_done (member_at line last s) (λ p. next (members_at count (line + 1) p.0.account p.1) (λ q. Told.done (p.0 ∷ q.0, q.1))) v e in
-    let b = next_done (members_at count (line + 1) a.0.0.account a.0.1) (λ q. Told.done (a.0.0 ∷ q.0, q.1)) v a.2 in
+    let a = next_done (member_at line last s) (λ p. next (members_at count (line + 1) p.0.account p.1) (λ q. Answer.done (p.0 ∷ q.0, q.1))) v e in
+    let b = next_done (members_at count (line + 1) a.0.0.account a.0.1) (λ q. Answer.done (a.0.0 ∷ q.0, q.1)) v a.2 in
     let d : (a.0.0 ∷ b.0.0, b.0.1) ≡ v = cc b.2 in
     let m = member_takes line last s a.0 a.1 in
     let ms = members_takes count (line + 1) a.0.0.account a.0.1 b.0 b.1 in
@@ -110,9 +111,9 @@ members_takes (suc count) line last s v e =
 abbrev pub PlacesTaken : List ℕ → ℕ → List Member × List ℕ → Type 0
 PlacesTaken s count v = Takes s (spelled_members (take count v.0)) count v.1
 
-pub places_takes : (count : ℕ) (s : List ℕ) (v : List Member × List ℕ) → places_at count s ≡ Told.done v → PlacesTaken s count v
+pub places_takes : (count : ℕ) (s : List ℕ) (v : List Member × List ℕ) → places_at count s ≡ Answer.done v → PlacesTaken s count v
 places_takes count s v e =
-    let a = next_done (members_at count 9 0 s) (λ p. Told.done (p.0 ++ replicate (32 - count) blank, p.1)) v e in
-    let d : (a.0.0 ++ replicate (32 - count) blank, a.0.1) ≡ v = cc a.2 in
-    let t = sym (take_at a.0.0 (replicate (32 - count) blank) count (members_kept count 9 0 s a.0 a.1).0) in
+    let a = next_done (members_at count 9 0 s) (λ p. Answer.done (p.0 ++ replicate (MOST_TEXT_MEMBERS - count) blank, p.1)) v e in
+    let d : (a.0.0 ++ replicate (MOST_TEXT_MEMBERS - count) blank, a.0.1) ≡ v = cc a.2 in
+    let t = sym (take_at a.0.0 (replicate (MOST_TEXT_MEMBERS - count) blank) count (members_kept count 9 0 s a.0 a.1).0) in
     subst (PlacesTaken s count) d (subst (λ (ms : List Member). Takes s (spelled_members ms) count a.0.1) t (members_takes count 9 0 s a.0 a.1))

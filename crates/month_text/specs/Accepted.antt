@@ -4,6 +4,7 @@ use Rattle.units.specs.Kinds.{lawful}
 use Rattle.month_text.specs.declared.month.Member.{Member}
 use Rattle.month_text.specs.declared.month.Month.{Month}
 use Rattle.month_text.specs.Members.{blank}
+use Rattle.limits.specs.declared.TheConstants.{FIRST_MONTH, LAST_MONTH, MOST_ACCOUNT, MOST_CENTS, MOST_CONTROL, MOST_TEXT_MEMBERS}
 
 -- each number up to the most; past the end of the list there are zeros
 abbrev pub EachTo : ℕ → List ℕ → Type 0
@@ -15,14 +16,14 @@ EachWithin most zs = (k : ℕ) → unsigned_abs (slice_index_or zs k (pos 0)) �
 -- accounts up to 999,999, each above the one before it
 abbrev pub Rising : ℕ → List Member → Type 0
 Rising last [] = Unit {0}
-Rising last (m ∷ ms) = (last < m.account) × (m.account ≤ 999999) × Rising m.account ms
+Rising last (m ∷ ms) = (last < m.account) × (m.account ≤ MOST_ACCOUNT) × Rising m.account ms
 
 abbrev pub EachLawful : List Member → Type 0
 EachLawful ms = (k : ℕ) → lawful (get_or ms k blank).facts ≡ true
 
 -- the 32 places of a month's members
 pub record Placed (count : ℕ) (members : List Member) : Type 0 where
-  pub places : length members ≡ 32
+  pub places : length members ≡ MOST_TEXT_MEMBERS
   pub rising : Rising 0 (take count members)
   pub facts_lawful : EachLawful members
 
@@ -36,11 +37,11 @@ pub record Weighed (division management split : List ℕ) : Type 0 where
 
 -- a month's numbers, as far as callers may lean on them
 pub record InRange (m : Month) : Type 0 where
-  pub month_low : 24277 ≤ m.month
-  pub month_high : m.month ≤ 35999
+  pub month_low : FIRST_MONTH ≤ m.month
+  pub month_high : m.month ≤ LAST_MONTH
   pub weighed : Weighed m.sheet.division m.sheet.management m.sheet.split
-  pub cost_each : EachWithin 4000000000 m.cost
-  pub control_within : unsigned_abs m.control ≤ 24000000000
+  pub cost_each : EachWithin MOST_CENTS m.cost
+  pub control_within : unsigned_abs m.control ≤ MOST_CONTROL
   pub count_low : 1 ≤ m.count
-  pub count_high : m.count ≤ 32
+  pub count_high : m.count ≤ MOST_TEXT_MEMBERS
   pub placed : Placed m.count m.members

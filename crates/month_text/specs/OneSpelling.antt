@@ -1,11 +1,11 @@
 -- How a month is spelled: the one text that is read as it.
 use Rattle.std.specs.Prelude.{◌≡◌, ℕ, ◌+◌, List, [], ◌∷◌, ◌++◌, map, length, take, ℤ, pos, codes, count_by, nat_eq}
 use Rattle.std.specs.Fmt.{signed_decimal}
-use Rattle.refusal.specs.Answers.{Told}
+use Rattle.refusal.specs.Answers.{Answer}
 use Rattle.month_text.specs.declared.month.Member.{Member}
 use Rattle.month_text.specs.declared.month.Month.{Month}
-use Rattle.month_text.specs.declared.month.RuleName.{RuleName}
-use Rattle.month_text.specs.declared.month.RuleName.TheVariants.{Posted, Ratio}
+use Rattle.sharing.specs.declared.name.RuleName.{RuleName}
+use Rattle.sharing.specs.declared.name.RuleName.TheVariants.{Posted, Ratio}
 use Rattle.month_text.specs.Lines.{stop}
 use Rattle.month_text.specs.Months.{read_month}
 
@@ -69,12 +69,12 @@ breaks text = count_by (λ c. nat_eq c 10) text
 
 -- a text that is read as a month is the month's spelling
 abbrev pub AsSpelled : List ℕ → Type 0
-AsSpelled text = (m : Month) → read_month text ≡ Told.done m → text ≡ spelled m
+AsSpelled text = (m : Month) → read_month text ≡ Answer.done m → text ≡ spelled m
 
 -- no other text is read as the same month
 abbrev pub OneSpelling : List ℕ → Type 0
-OneSpelling text = (other : List ℕ) (m : Month) → read_month text ≡ Told.done m → read_month other ≡ Told.done m → text ≡ other
+OneSpelling text = (other : List ℕ) (m : Month) → read_month text ≡ Answer.done m → read_month other ≡ Answer.done m → text ≡ other
 
 -- a text that is read has eight lines and one for each member
 abbrev pub LineCount : List ℕ → Type 0
-LineCount text = (m : Month) → read_month text ≡ Told.done m → breaks text ≡ 8 + m.count
+LineCount text = (m : Month) → read_month text ≡ Answer.done m → breaks text ≡ 8 + m.count

@@ -46,8 +46,7 @@ fn fields<'a, const K: usize>(signs: bool, s: &'a [u8]) -> Option<([i64; K], &'a
     Some((numbers, rest))
 }
 
-/// A whole line of `K` numbers behind its key.
-// `signs` is the definition's own Bool: a line has signs or has none.
+/// A whole line of `K` numbers behind its key, with signs or without.
 pub(crate) fn line<'a, const K: usize>(
     key: &[u8],
     signs: bool,

@@ -1,16 +1,14 @@
-//! A month as its text tells it.
+//! A month as its text gives it.
 ghost use Rattle.std.specs.Prelude.{◌≡◌};
 ghost use Rattle.month_text.specs.Members.{member_of, member_lawful};
 
+use limits::{MOST_ACCOUNT, MOST_TEXT_MEMBERS};
+use sharing::name::RuleName;
 use std::array;
 use units::facts::Facts;
 
-/// How a pool is shared among the members.
-#[derive(Clone, Copy, PartialEq, Eq, Debug)]
-pub enum RuleName {
-    Posted,
-    Ratio,
-}
+/// The largest number of a month's text: it has eleven digits.
+pub const MOST_NUMBER: u64 = 99_999_999_999;
 
 /// A member's account and what it did in the month.
 #[derive(Clone, Copy, PartialEq, Eq, Debug)]
@@ -36,7 +34,7 @@ impl Member {
     pub(crate) fn follows(&self, last: u32) -> bool
         ensures { result ≡ member_lawful last self.now }
     {
-        last < self.account && self.account <= 999_999 && self.facts.lawful()
+        last < self.account && self.account <= MOST_ACCOUNT && self.facts.lawful()
     }
 }
 
@@ -48,8 +46,8 @@ pub struct SheetLines {
     pub split: [u32; 2],
 }
 
-/// All lines of a month's text. Members from `count` on are blank.
-// No heap is kept: the month has places for the 32 members that a text may have, and `count` beside them.
+/// All lines of a month's text. It has places for the most members that a text may have; those from
+/// `count` on are blank.
 #[derive(Clone, Copy, PartialEq, Eq, Debug)]
 pub struct Month {
     pub month: u32,
@@ -58,5 +56,5 @@ pub struct Month {
     pub cost: [i64; 6],
     pub control: i64,
     pub count: usize,
-    pub members: [Member; 32],
+    pub members: [Member; MOST_TEXT_MEMBERS],
 }

@@ -3,7 +3,7 @@ ghost use Rattle.std.specs.Prelude.{◌≡◌, ◌^◌, ◌<◌, ◌≤◌, IfSo
 ghost use Rattle.std.specs.List.{list_all};
 ghost use Rattle.refusal.specs.Answers.{answer_by};
 ghost use Rattle.month_text.specs.Accepted.{EachTo, EachWithin};
-ghost use Rattle.month_text.specs.Ranges.{natural_in, amount_in, each, number_at_line, row_at, amounts_at, weights_at};
+ghost use Rattle.month_text.specs.Ranges.{natural_in, amount_in, each, number_at_line, naturals_at, amounts_at, weights_at};
 
 use crate::lines::line;
 use cents::weights::adds_up;
@@ -34,12 +34,11 @@ fn natural(x: i64, low: u32, high: u32) -> Option<u32>
 }
 
 /// All numbers without signs, where each lies from `low` to `high`.
-fn naturals<const K: usize>(xs: [i64; K], low: u32, high: u32) -> Option<[u32; K]>
+fn each_natural<const K: usize>(xs: [i64; K], low: u32, high: u32) -> Option<[u32; K]>
     ensures value { result ≡ each (natural_in low high) xs.entry }
     ensures range { IfSome result (λ ns. EachTo high ns) }
 {
     let mut numbers = [0u32; K];
-    // Not `array::try_from_fn`: it does not tell which element failed, as the clause needs.
     for (i, x) in xs.iter().enumerate() {
         numbers[i] = natural(*x, low, high)?;
     }
@@ -54,9 +53,8 @@ fn all_bounded<const K: usize>(xs: [i64; K], most: u64) -> bool
 }
 
 /// A line of `K` numbers from `low` to `high`, and the text after it.
-// Not one function with `amounts`: a closure's bound that names `K`, as the test's would, is not covered yet.
 // The text and its line number are two: a cursor would have to count up to the number.
-pub(crate) fn row<'a, const K: usize>(
+pub(crate) fn naturals<'a, const K: usize>(
     key: &[u8],
     low: u32,
     high: u32,
@@ -64,15 +62,14 @@ pub(crate) fn row<'a, const K: usize>(
     s: &'a [u8],
 ) -> Result<([u32; K], &'a [u8]), Fault>
     requires { K < 2 ^ 16 }
-    ensures value { answer_by (λ p. (p.0, p.1.now)) result ≡ row_at key.now K low high line_number s.now }
+    ensures value { answer_by (λ p. (p.0, p.1.now)) result ≡ naturals_at key.now K low high line_number s.now }
     ensures range { IfOk result (λ p. EachTo high p.0) }
 {
-    // Here, in `amounts` and in `weights`: `?` at `K` numbers beside a text is not covered yet.
     let Some(read) = line::<K>(key, false, s) else {
         return Err(off_layout(line_number));
     };
     let (read, rest) = read;
-    let Some(numbers) = naturals(read, low, high) else {
+    let Some(numbers) = each_natural(read, low, high) else {
         return Err(out_of_range(line_number));
     };
     Ok((numbers, rest))
@@ -89,7 +86,7 @@ pub(crate) fn number_line<'a>(
     ensures value { answer_by (λ p. (p.0, p.1.now)) result ≡ number_at_line key.now low high line_number s.now }
     ensures range { IfOk result (λ p. (low ≤ p.0) × (p.0 ≤ high)) }
 {
-    let ([number], rest) = row::<1>(key, low, high, line_number, s)?;
+    let ([number], rest) = naturals::<1>(key, low, high, line_number, s)?;
     Ok((number, rest))
 }
 
@@ -124,7 +121,7 @@ pub(crate) fn weights<'a, const K: usize>(
     ensures range { IfOk result (λ p. EachTo 1000 p.0) }
     ensures whole { IfOk result (λ p. sum p.0 ≡ 1000) }
 {
-    let (weights, rest) = match row::<K>(key, 0, 1000, line_number, s) {
+    let (weights, rest) = match naturals::<K>(key, 0, 1000, line_number, s) {
         Ok(read) => read,
         Err(fault) => return Err(fault),
     };

@@ -7,12 +7,13 @@ ghost use Rattle.month_text.specs.OneSpelling.{AsSpelled, OneSpelling, LineCount
 
 use crate::lines::after_word;
 use crate::members::{FIRST, members};
-use crate::month::{Month, RuleName, SheetLines};
-use crate::ranges::{amounts, number_line, off_layout, row, weights};
+use crate::month::{Month, SheetLines};
+use crate::ranges::{amounts, naturals, number_line, off_layout, weights};
+use limits::{
+    FIRST_MONTH, LAST_MONTH, MOST_CENTS, MOST_CONTROL, MOST_TEXT_BYTES, MOST_TEXT_MEMBERS,
+};
 use refusal::Fault;
-
-/// The longest text, in bytes.
-const LONGEST: usize = 16_384;
+use sharing::name::RuleName;
 
 /// The sharing rule's line, and the text after it.
 fn rule_line(s: &[u8]) -> Result<(RuleName, &[u8]), Fault>
@@ -32,7 +33,7 @@ fn sheet_lines(s: &[u8]) -> Result<(SheetLines, &[u8]), Fault>
 {
     let (division, s) = weights(b"division", 3, s)?;
     let (management, s) = weights(b"management", 4, s)?;
-    let (split, s) = row(b"split", 0, 1000, 5, s)?;
+    let (split, s) = naturals(b"split", 0, 1000, 5, s)?;
     let sheet = SheetLines {
         division,
         management,
@@ -46,12 +47,12 @@ fn lines_of(s: &[u8]) -> Result<Month, Fault>
     ensures value { answer result ≡ month_at s.now }
     ensures range { IfOk result (λ m. InRange m) }
 {
-    let (month, s) = number_line(b"month", 24_277, 35_999, 1, s)?;
+    let (month, s) = number_line(b"month", FIRST_MONTH, LAST_MONTH, 1, s)?;
     let (rule, s) = rule_line(s)?;
     let (sheet, s) = sheet_lines(s)?;
-    let (cost, s) = amounts(b"cost", 4_000_000_000, 6, s)?;
-    let ([control], s) = amounts::<1>(b"control", 24_000_000_000, 7, s)?;
-    let (users, s) = number_line(b"users", 1, 32, 8, s)?;
+    let (cost, s) = amounts(b"cost", MOST_CENTS, 6, s)?;
+    let ([control], s) = amounts::<1>(b"control", MOST_CONTROL, 7, s)?;
+    let (users, s) = number_line(b"users", 1, MOST_TEXT_MEMBERS as u32, 8, s)?;
     let count = users as usize;
     let (members, s) = members(count, s)?;
     if !s.is_empty() {
@@ -76,7 +77,7 @@ pub fn read(text: &[u8]) -> Result<Month, Fault>
     ensures unique { OneSpelling text.now }
     ensures lines { LineCount text.now }
 {
-    if text.len() > LONGEST {
+    if text.len() > MOST_TEXT_BYTES {
         return Err(off_layout(0));
     }
     lines_of(text)

@@ -12,7 +12,7 @@ use voucher::voucher::Voucher;
 
 /// Adds one line a head, from the first head on.
 fn add_lines(voucher: &mut Voucher, cost: [i64; 6]) -> Result<(), Fault>
-    ensures told { answer result ≡ bare (lines_rule voucher.old.amounts 1 cost) }
+    ensures answered { answer result ≡ bare (lines_rule voucher.old.amounts 1 cost) }
     ensures amounts { OnOk result (lines_rule voucher.old.amounts 1 cost ≡ done voucher.new.amounts) }
     ensures control { voucher.new.control ≡ voucher.old.control }
 {
@@ -24,7 +24,7 @@ fn add_lines(voucher: &mut Voucher, cost: [i64; 6]) -> Result<(), Fault>
 
 /// Adds the lines and balances.
 fn fill(voucher: &mut Voucher, cost: [i64; 6]) -> Result<(), Fault>
-    ensures told { answer result ≡ bare (fill_rule voucher.old.control voucher.old.amounts cost) }
+    ensures answered { answer result ≡ bare (fill_rule voucher.old.control voucher.old.amounts cost) }
     ensures amounts { OnOk result (fill_rule voucher.old.control voucher.old.amounts cost ≡ done voucher.new.amounts) }
     ensures state { OnOk result (voucher.new.state ≡ Balanced) }
     ensures control { voucher.new.control ≡ voucher.old.control }
@@ -36,7 +36,7 @@ fn fill(voucher: &mut Voucher, cost: [i64; 6]) -> Result<(), Fault>
 /// A balanced voucher of a month's costs, which add up to the control total; where it is refused, the
 /// voucher is struck out.
 pub fn cost_voucher(control: i64, cost: [i64; 6]) -> Result<Voucher, Fault>
-    ensures told { answer_by (λ v. v.amounts) result ≡ cost_rule control cost }
+    ensures answered { answer_by (λ v. v.amounts) result ≡ cost_rule control cost }
     ensures balanced { IfOk result (λ v. v.state ≡ Balanced) }
     ensures whole { IfOk result (λ v. (v.control ≡ control) × (v.amounts ≡ cost) × (sum_z cost ≡ control)) }
 {

@@ -2,7 +2,6 @@
 use crate::stored::StoredRun;
 use anyhow::{Context, anyhow};
 use bottom_books::table_book::TableBook;
-use charges_text::charges::ComponentCharge;
 use ledger::ledger::Ledger;
 use ledger::line::Line;
 use refusal::Fault;
@@ -10,6 +9,7 @@ use runs::done::Done;
 use runs::order::Order;
 use runs::run::run;
 use sharing::rule::Rule;
+use statement::charge::ComponentCharge;
 use std::alloc::{AllocError, Global};
 
 /// Numbers found, in the order in which they are stored.
@@ -92,7 +92,7 @@ impl Found {
     }
 }
 
-/// Carries out orders on a new ledger, in memory that is long enough for them, and tells what is
+/// Carries out orders on a new ledger, in memory that is long enough for them, and gives what is
 /// found then.
 fn carried<R: Rule + Copy + Drop>(
     heap: Global,
@@ -125,7 +125,7 @@ fn carried<R: Rule + Copy + Drop>(
     Ok(found.numbers)
 }
 
-/// Carries out the first orders of a run, and tells what is found then.
+/// Carries out the first orders of a run, and gives what is found then.
 pub(crate) fn found_after<R: Rule + Copy + Drop>(
     heap: Global,
     rule: R,

@@ -8,10 +8,8 @@ mod stored;
 use crate::found::found_after;
 use crate::numbers::{Numbers, numbers_of};
 use crate::stored::{StoredRun, run_of};
-use month_text::month::RuleName;
-use sharing::posted::Posted;
-use sharing::ratio::Ratio;
 use sharing::rule::Rule;
+use sharing::with_rule;
 use std::alloc::Global;
 use std::fs;
 
@@ -46,11 +44,10 @@ fn agrees(rt: &HostRuntime, number: u32) -> anyhow::Result<bool> {
     let found_text = fs::read_to_string(rt, found_name.as_str())?;
     let stored = run_of(heap, &mut Numbers::new(run_text.as_str()))?;
     let wanted = numbers_of(heap, found_text.as_str())?;
-    // Each rule has its own constant STEP, so one type cannot stand for both.
-    let differing = match stored.rule {
-        RuleName::Posted => differing_step(heap, Posted, &stored, wanted.as_slice())?,
-        RuleName::Ratio => differing_step(heap, Ratio, &stored, wanted.as_slice())?,
-    };
+    let differing = with_rule!(
+        stored.rule,
+        |rule| differing_step(heap, rule, &stored, wanted.as_slice())
+    )?;
     if let Some(step) = differing {
         println!(rt; "{number:02}: step {step} differs")?;
         return Ok(false);

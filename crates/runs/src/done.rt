@@ -1,5 +1,5 @@
 //! How an accepted order ended.
-use charges_text::charges::ComponentCharge;
+use statement::charge::ComponentCharge;
 
 /// What an order that was not refused came to.
 #[derive(Clone, Copy)]

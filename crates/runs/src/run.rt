@@ -1,10 +1,10 @@
 //! A whole list of orders, carried out on a new ledger and its file.
-ghost use Rattle.std.specs.Prelude.{◌≡◌, ◌*◌, [], map, length, MatchResult, OnOk, ◌==◌};
+ghost use Rattle.std.specs.Prelude.{◌≡◌, ◌*◌, [], map, length, OnErr, OnOk, ◌==◌};
 ghost use Rattle.refusal.specs.Answers.{answer};
-ghost use Rattle.ledger.specs.Kept.{Kept, terms};
-ghost use Rattle.ledger.specs.Ledgers.{cut_by, standing_of, terms_of};
+ghost use Rattle.ledger.specs.Kept.{Kept};
+ghost use Rattle.ledger.specs.Ledgers.{state_of, terms_of, terms_with};
 ghost use Rattle.runs.specs.Orders.{deed_of};
-ghost use Rattle.runs.specs.Runs.{run_rule, new_world, Ran};
+ghost use Rattle.runs.specs.Runs.{run_rule, world_at, new_world, Ran};
 
 use crate::carrying::carry_out;
 use crate::done::Done;
@@ -23,7 +23,7 @@ fn cells_fit(cells: usize, orders: usize, members: u32) -> bool
     orders.checked_mul(13 * members as usize) == Some(cells)
 }
 
-/// Carries out the orders one after the other on a ledger that keeps the accounts of no call yet.
+/// Carries out the orders one after the other on a ledger that has no history yet.
 #[tactic(auto, using(crate::proofs::Running::row_fits))]
 fn run_orders<R: Rule, B: Book>(
     ledger: &mut Ledger<R>,
@@ -34,12 +34,12 @@ fn run_orders<R: Rule, B: Book>(
 )
     requires outcomes { length outcomes.old ≡ length orders.now }
     requires cells { length statements.old ≡ length orders.now * (13 * ledger.old.accounts.members) }
-    requires kept { Kept (terms_of ledger.old) [] (standing_of ledger.old file.old) }
-    ensures ran { Ran (terms_of ledger.old) (record { stands = standing_of ledger.old file.old; history = [] }) (map (deed_of B.Book) orders.now) outcomes.new statements.old statements.new (standing_of ledger.new file.new) }
+    requires kept { Kept (terms_of ledger.old) [] (state_of ledger.old file.old) }
+    ensures ran { Ran (terms_of ledger.old) (world_at (state_of ledger.old file.old)) (map (deed_of B.Book) orders.now)
+        outcomes.new statements.old statements.new (state_of ledger.new file.new) }
     ensures same { (ledger.new.rule ≡ ledger.old.rule) × (ledger.new.sheet ≡ ledger.old.sheet) }
 {
     let width = 13 * ledger.members() as usize;
-    // zipped chunks would tell nothing of the statements afterwards, so an order's cells go by its place
     for (i, order) in orders.iter().enumerate() {
         let start = i * width;
         let end = start + width;
@@ -48,8 +48,7 @@ fn run_orders<R: Rule, B: Book>(
     }
 }
 
-// Terms and lent slices come one by one: `open` takes the terms so, and a struct of lent slices would be
-// taken apart at once.
+// The terms come one by one, as `open` takes them.
 /// Opens a ledger in the place of another and carries out a list of orders on it and its file, whatever
 /// the file holds. Each order has its outcome, and a statement of thirteen cells a member: a bill writes
 /// all of them, a resettlement the first ones. Refused before the first order, nothing changes.
@@ -64,9 +63,13 @@ pub fn run<R: Rule + Drop, B: Book>(
     statements: &mut [i64],
     outcomes: &mut [Result<Done, Fault>],
 ) -> Result<(), Fault>
-    ensures told { answer result ≡ run_rule (length orders.now) (length outcomes.old) (length statements.old) members first }
-    ensures ran { MatchResult result (λ _. Ran (terms (R.shares rule) R.STEP (cut_by sheet) members first) (new_world members first file.old) (map (deed_of B.Book) orders.now) outcomes.new statements.old statements.new (standing_of ledger.new file.new)) (λ _. (ledger.new ≡ ledger.old) × (file.new ≡ file.old) × (statements.new ≡ statements.old) × (outcomes.new ≡ outcomes.old)) }
+    ensures answered { answer result ≡ run_rule (length orders.now) (length outcomes.old) (length statements.old) members first }
+    ensures ran { OnOk result
+        (Ran (terms_with R.Rule rule sheet members first) (new_world members first file.old) (map (deed_of B.Book) orders.now)
+        outcomes.new statements.old statements.new (state_of ledger.new file.new)) }
     ensures same { OnOk result ((ledger.new.rule ≡ rule) × (ledger.new.sheet ≡ sheet)) }
+    ensures refused { OnErr result ((ledger.new ≡ ledger.old) × (file.new ≡ file.old)
+        × (statements.new ≡ statements.old) × (outcomes.new ≡ outcomes.old)) }
 {
     if outcomes.len() != orders.len() || !cells_fit(statements.len(), orders.len(), members) {
         return Err(Layer::Ledger.refuses(Refusal::Length));

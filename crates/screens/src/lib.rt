@@ -1,9 +1,9 @@
-//! What screens written in C call: the FERC rate, and the test of a month's text. A refusal is told
-//! by its number; 0 is an accepted call. The crate `screens_c` exports them.
+//! What screens written in C call: the FERC rate, and the test of a month's text. A refusal is
+//! given by its number; 0 stands for an accepted call. The crate `screens_c` exports them.
 #![tactic(auto)]
 
 ghost use Rattle.std.specs.Prelude.{◌≡◌};
-ghost use Rattle.screens.specs.Screens.{rate_told, text_told};
+ghost use Rattle.screens.specs.Screens.{rate_answer, text_answer};
 ghost use Rattle.ferc.specs.Rates.{rate_rule};
 ghost use Rattle.month_text.specs.Months.{read_month};
 
@@ -28,7 +28,7 @@ pub struct TextAnswer {
 
 /// The rate of a FERC year; 0 where it is refused.
 pub fn bulliongnat_ferc_rate(estimate: i64, paid: i64, recovered: i64, volume: u64) -> RateAnswer
-    ensures { result ≡ rate_told (rate_rule estimate paid recovered volume) }
+    ensures { result ≡ rate_answer (rate_rule estimate paid recovered volume) }
 {
     let figures = YearFigures {
         estimate,
@@ -47,7 +47,7 @@ pub fn bulliongnat_ferc_rate(estimate: i64, paid: i64, recovered: i64, volume: u
 
 /// Whether a text is a month's, and else the first refusal.
 pub fn bulliongnat_test_month(text: &[u8]) -> TextAnswer
-    ensures { result ≡ text_told (read_month text.now) }
+    ensures { result ≡ text_answer (read_month text.now) }
 {
     match read(text) {
         Ok(_) => TextAnswer { number: 0, line: 0 },

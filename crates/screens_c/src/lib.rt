@@ -2,7 +2,7 @@
 #![tactic(auto)]
 
 ghost use Rattle.std.specs.Prelude.{◌≡◌};
-ghost use Rattle.screens.specs.Screens.{rate_told, text_told};
+ghost use Rattle.screens.specs.Screens.{rate_answer, text_answer};
 ghost use Rattle.ferc.specs.Rates.{rate_rule};
 ghost use Rattle.month_text.specs.Months.{read_month};
 
@@ -16,7 +16,7 @@ pub extern "C" fn bulliongnat_ferc_rate(
     recovered: i64,
     volume: u64,
 ) -> RateAnswer
-    ensures { result ≡ rate_told (rate_rule estimate paid recovered volume) }
+    ensures { result ≡ rate_answer (rate_rule estimate paid recovered volume) }
 {
     screens::bulliongnat_ferc_rate(estimate, paid, recovered, volume)
 }
@@ -24,7 +24,7 @@ pub extern "C" fn bulliongnat_ferc_rate(
 /// Whether a text is a month's, and else the first refusal.
 #[unsafe(no_mangle)]
 pub extern "C" fn bulliongnat_test_month(text: &[u8]) -> TextAnswer
-    ensures { result ≡ text_told (read_month text.now) }
+    ensures { result ≡ text_answer (read_month text.now) }
 {
     screens::bulliongnat_test_month(text)
 }

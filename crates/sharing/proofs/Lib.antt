@@ -1,2 +1,4 @@
+pub mod Members
+pub mod Rates
 pub mod Tolerances
 pub mod Lawful

@@ -7,6 +7,7 @@ use Rattle.cents.proofs.Products.{mul_plus, mul_minus}
 use Rattle.sharing.specs.Tolerance.{Near, NearTogether, slack, cent}
 use Rattle.std.proofs.lemmas.Int.{unsigned_abs-mul}
 use Rattle.std.proofs.Math.Nat.{le_of_mul-le-mul_left}
+use Rattle.limits.specs.declared.TheConstants.{MOST_CENTS, MOST_SHARED, MOST_UNITS}
 
 near_none : (k d : ℕ) (P : ℤ) (T : ℕ) → NearTogether k d P T 0 (pos 0)
 near_none k d P T = omega (arith, ints)
@@ -35,14 +36,14 @@ near_front d P T (u ∷ us) (s ∷ ss) e h (suc k) =
     subst (λ (n : ℕ). NearTogether (suc k) d P T n (s +ℤ sum_z (take k ss))) (sym (sum_by-cons (λ x. x) u (take k us))) n
 
 -- what k members bear is at most the largest pool, half a cent for each of the most units, and one cent for each member
-pub near_small : (k d : ℕ) (P : ℤ) (T U : ℕ) (S : ℤ) → d ≤ 100 → nat_abs P ≤ 4000000000 → 0 < T → T ≤ 2000000000 → U ≤ T → NearTogether k d P T U S → nat_abs S ≤ 5000000000 + k
+pub near_small : (k d : ℕ) (P : ℤ) (T U : ℕ) (S : ℤ) → d ≤ 100 → nat_abs P ≤ MOST_CENTS → 0 < T → T ≤ MOST_UNITS → U ≤ T → NearTogether k d P T U S → nat_abs S ≤ MOST_SHARED + k
 near_small k d P T U S hd hp h0 ht hu h =
     let a = unsigned_abs-mul (pos T) S in
     let b = unsigned_abs-mul P (pos U) in
     let c = mul-le-mul_left (nat_abs P) hu in
     let w : T * (cent * nat_abs S) ≤ T * (cent * nat_abs P + d * U + cent * k) = omega (arith, ints) in
     let l = le_of_mul-le-mul_left w h0 in
-    let m : d * U ≤ 100 * 2000000000 = mul-le-mul {n₂ = 100} {m₂ = 2000000000} hd (omega arith) in
+    let m : d * U ≤ 100 * MOST_UNITS = mul-le-mul {n₂ = 100} {m₂ = MOST_UNITS} hd (omega arith) in
     omega arith
 
 -- all members together bear the pool, to within half a step for each unit and one cent for each member

@@ -3,8 +3,7 @@ pub mod Shares
 pub mod Tolerance
 pub mod Posted
 pub mod Ratio
-pub mod Shared
-pub mod Domains
-pub mod PostedShares
-pub mod Members
-pub mod RatioShares
+pub mod Names
+pub mod LawsOfRules
+pub mod LawsOfPosted
+pub mod LawsOfRatio

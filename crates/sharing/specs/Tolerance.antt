@@ -1,6 +1,6 @@
 -- How near shares lie to the exact ones. A rate's step is in hundredths of a cent, and a rate is
 -- at most half a step off, so all is counted in halves of a hundredth.
-use Rattle.std.specs.Prelude.{ℕ, ◌+◌, ◌*◌, ◌/◌, ◌≤◌, ℤ, pos, ◌-ℤ◌, ◌*ℤ◌, unsigned_abs}
+use Rattle.std.specs.Prelude.{ℕ, ◌+◌, ◌*◌, ◌/◌, ◌≤◌, List, ℤ, pos, ◌-ℤ◌, ◌*ℤ◌, sum, slice_index, slice_index_or, unsigned_abs}
 
 -- a cent, in halves of a hundredth
 abbrev pub cent : ℕ
@@ -15,6 +15,10 @@ NearTogether members step pool total units cents =
 -- one member's share
 abbrev pub Near : ℕ → ℤ → ℕ → ℕ → ℤ → Type 0
 Near step pool total units share = NearTogether 1 step pool total units share
+
+-- each member's share, by its units and the units of all
+abbrev pub EachNear : ℕ → ℤ → List ℕ → List ℤ → Type 0
+EachNear step pool units shares = (m : ℕ) → Near step pool (sum units) (slice_index units m) (slice_index_or shares m (pos 0))
 
 -- how many cents the shares of all members together may lie from the pool
 abbrev pub slack : ℕ → ℕ → ℕ → ℕ

@@ -1,15 +1,10 @@
 //! What can be shared.
 ghost use Rattle.std.specs.Prelude.{◌≡◌, ◌&&◌, ◌==◌, if◌then◌else◌, length, Some, None, sum};
 ghost use Rattle.sharing.specs.Domain.{in_domain, shareable};
-ghost use Rattle.sharing.specs.Shares.{laid, shared};
+ghost use Rattle.sharing.specs.Shares.{shares_written, shared};
 
 use cents::weights::total;
-
-/// The largest pool, in cents, either way.
-const MOST_CENTS: u64 = 4_000_000_000;
-
-/// The most units of all members together.
-const MOST_UNITS: u64 = 2_000_000_000;
+use limits::{MOST_CENTS, MOST_UNITS};
 
 /// Whether a pool can be shared over so many units.
 pub fn in_domain(pool: i64, total: u64) -> bool
@@ -22,7 +17,7 @@ pub fn in_domain(pool: i64, total: u64) -> bool
 /// there is not one for each member.
 pub fn total_or_clear(pool: i64, units: &[u32], out: &mut [i64]) -> Option<u64>
     ensures over { result ≡ (if length units.now == length out.old && shareable pool units.now then Some (sum units.now) else None) }
-    ensures rest { out.new ≡ laid units.now out.old (shared pool units.now out.old) }
+    ensures rest { out.new ≡ shares_written units.now out.old (shared pool units.now out.old) }
 {
     if units.len() != out.len() {
         return None;

@@ -3,7 +3,8 @@
 
 pub mod bounds;
 pub mod domain;
-pub mod laying;
+pub mod name;
 pub mod posted;
 pub mod ratio;
 pub mod rule;
+pub mod writing;

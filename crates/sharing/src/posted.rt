@@ -2,14 +2,13 @@
 ghost use Rattle.std.specs.Prelude.{◌≡◌, ◌*◌, ◌≤◌, sum, unsigned_abs};
 ghost use Rattle.sharing.specs.Posted.{posted_rate, posted_share, posted};
 ghost use Rattle.std.proofs.lemmas.List.{length-map};
-ghost use Rattle.sharing.specs.Shared.{shared_long, shared_idle, shared_fair, shared_unused};
-ghost use Rattle.std.proofs.Common.{rules, arith};
-ghost use Rattle.sharing.specs.PostedShares.{each_near, nearest_none};
-ghost use Rattle.sharing.specs.Members.{map_unused};
+ghost use Rattle.sharing.specs.LawsOfRules.{map_unused, shared_long, shared_idle, shared_fair, shared_unused};
+ghost use Rattle.std.proofs.Common.{rules};
+ghost use Rattle.sharing.specs.LawsOfPosted.{each_near, posted_none};
 
 use crate::domain::{in_domain, total_or_clear};
-use crate::laying::lay;
 use crate::rule::Rule;
+use crate::writing::write_shares;
 use cents::rounding::{nearest, nearest_cents};
 
 /// The rate of a unit, in hundredths of a cent; 0 where nothing can be shared.
@@ -47,14 +46,14 @@ impl Rule for Posted {
 
     ghost idle = { λ x p us e. shared_idle p us _ e };
 
-    ghost fair = { λ x p us e m. shared_fair _ p us _ m e (Prim.search (rules, each_near)) };
+    ghost fair = { λ x p us e. shared_fair 1 p us _ e (each_near p us e) };
 
-    ghost unused = { λ x p us m e. shared_unused p us _ m (map_unused _ us m (nearest_none 100 (posted_rate p (sum us)) (omega arith)) e) };
+    ghost unused = { λ x p us m e. shared_unused p us _ m (map_unused _ us m (posted_none (posted_rate p (sum us))) e) };
 
     fn share(&self, pool: i64, units: &[u32], out: &mut [i64]) {
         if let Some(total) = total_or_clear(pool, units, out) {
             let rate = posted_rate(pool, total);
-            lay(units, out, |member| posted_share(rate, member));
+            write_shares(units, out, |member| posted_share(rate, member));
         }
     }
 }

@@ -3,9 +3,8 @@ ghost use Rattle.std.specs.Prelude.{sum};
 ghost use Rattle.cents.specs.Cutting.{cut};
 ghost use Rattle.cents.proofs.Parts.{cut_length};
 ghost use Rattle.sharing.specs.Ratio.{ratio};
-ghost use Rattle.sharing.specs.Shared.{shared_long, shared_idle, shared_fair, shared_unused};
-ghost use Rattle.sharing.specs.RatioShares.{part_near, part_unused};
-ghost use Rattle.sharing.specs.Domains.{in_domain_lem};
+ghost use Rattle.sharing.specs.LawsOfRules.{in_domain_lem, shared_long, shared_idle, shared_fair, shared_unused};
+ghost use Rattle.sharing.specs.LawsOfRatio.{part_near, part_unused};
 ghost use Rattle.std.proofs.Common.{rules};
 
 use crate::domain::total_or_clear;
@@ -29,7 +28,7 @@ impl Rule for Ratio {
 
     ghost idle = { λ x p us e. shared_idle p us (cut p us) e };
 
-    ghost fair = { λ x p us e m. shared_fair 0 p us (cut p us) m e (part_near p (sum us) 0 us m (in_domain_lem p (sum us) e).1) };
+    ghost fair = { λ x p us e. shared_fair 0 p us (cut p us) e (λ m. part_near p (sum us) 0 us m (in_domain_lem p (sum us) e).1) };
 
     ghost unused = { λ x p us m e. shared_unused p us (cut p us) m (part_unused p (sum us) 0 us m e) };
 

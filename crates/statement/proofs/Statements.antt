@@ -2,12 +2,10 @@
 use Rattle.std.proofs.Common.{◌≡◌, ℕ, zero, suc, ◌+◌, ◌*◌, ◌<◌, List, [], ◌∷◌, ◌++◌, length, get_or, take, drop, set, ℤ, pos, sym, refl, ap, ◌∙◌, arith}
 use borrow.Rule.Slice.PartMut.{put_mid}
 use Rattle.std.proofs.lemmas.List.{length-append, length-map, take_more_set, take_at, drop_at, drop-drop, append_assoc}
-use Rattle.charges_text.specs.declared.charges.ComponentCharge.{ComponentCharge}
+use Rattle.statement.specs.declared.charge.ComponentCharge.{ComponentCharge}
 use Rattle.statement.specs.Columns.{kind_of, column}
-use Rattle.statement.specs.Charges.{Shares, charge, charged, components, cells}
-
-pub next_row : (c n : ℕ) → (c + 1) * n ≡ c * n + n
-next_row c n = omega arith
+use Rattle.sharing.specs.Shares.{Shares}
+use Rattle.statement.specs.Charges.{charge, charged, component_charges, cells}
 
 module _ (shares : Shares) (long : (p : ℤ) (us : List ℕ) → length (shares p us) ≡ length us) (pools : List ℤ) (rows : List (List ℕ)) where
   pub charge_length : (c : ℕ) → length (charge shares pools rows c) ≡ length rows
@@ -32,16 +30,16 @@ module _ (shares : Shares) (long : (p : ℤ) (us : List ℕ) → length (shares 
       let p : cells shares pools rows (c + 1) ≡ done ++ charge shares pools rows c = ap (cells shares pools rows) {x = c + 1} {y = suc c} (omega arith) in
       rw (t, d, f, p, er) (sym (append_assoc done (charge shares pools rows c) (drop ((c + 1) * length rows) entry)))
 
-  pub components_more : (c : ℕ) (charges : List ComponentCharge) (x : ComponentCharge) → c < length charges → take c charges ≡ components shares pools rows c → x ≡ charged shares pools rows c
-      → take (c + 1) (set charges c x) ≡ components shares pools rows (c + 1)
-  unfolding components
-  components_more c charges x l h e =
-      let p : components shares pools rows (c + 1) ≡ components shares pools rows c ++ (charged shares pools rows c ∷ []) = ap (components shares pools rows) {x = c + 1} {y = suc c} (omega arith) in
+  pub component_charges_more : (c : ℕ) (charges : List ComponentCharge) (x : ComponentCharge) → c < length charges → take c charges ≡ component_charges shares pools rows c → x ≡ charged shares pools rows c
+      → take (c + 1) (set charges c x) ≡ component_charges shares pools rows (c + 1)
+  unfolding component_charges
+  component_charges_more c charges x l h e =
+      let p : component_charges shares pools rows (c + 1) ≡ component_charges shares pools rows c ++ (charged shares pools rows c ∷ []) = ap (component_charges shares pools rows) {x = c + 1} {y = suc c} (omega arith) in
       take_more_set charges c x l ∙ rw (h, e) (sym p)
 
-  pub components_none : [] ≡ components shares pools rows 0
-  unfolding components
-  components_none = refl
+  pub component_charges_none : [] ≡ component_charges shares pools rows 0
+  unfolding component_charges
+  component_charges_none = refl
 
   pub cells_none : (entry : List ℤ) → entry ≡ cells shares pools rows 0 ++ drop (0 * length rows) entry
   unfolding cells

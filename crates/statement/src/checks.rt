@@ -3,37 +3,33 @@ ghost use Rattle.std.specs.Prelude.{◌≡◌, ℕ, ◌*◌, ◌<◌, ◌≤◌,
 ghost use Rattle.refusal.specs.Answers.{answer, answer_by};
 ghost use Rattle.statement.specs.Columns.{column};
 ghost use Rattle.statement.specs.Checks.{totals_rule, pools_rule, charge_rule};
+ghost use Rattle.limits.specs.declared.TheConstants.{MOST_CENTS, MOST_UNITS};
 
 use crate::component::Component;
 use crate::kind::Kind;
 use crate::usage::Usage;
+use limits::{MOST_CENTS, MOST_UNITS, count_lawful};
 use refusal::{Fault, Layer, Refusal};
-
-/// The most units of one kind, of all members together.
-const MOST_UNITS: u64 = 2_000_000_000;
-
-/// The largest pool, in cents, either way.
-const MOST_CENTS: u64 = 4_000_000_000;
 
 /// A month that passed all tests; only `test` makes one.
 #[derive(Drop)]
 pub(crate) struct TestedMonth<'a> {
     pub pools: [i64; 13],
     pub units: Usage<'a>,
-    ghost within: { (c : ℕ) → unsigned_abs (slice_index_or pools c (pos 0)) ≤ 4000000000 },
-    ghost totals: { (k : ℕ) → k < 7 → sum (column units.rows.now k) ≤ 2000000000 },
+    ghost within: { (c : ℕ) → unsigned_abs (slice_index_or pools c (pos 0)) ≤ MOST_CENTS },
+    ghost totals: { (k : ℕ) → k < 7 → sum (column units.rows.now k) ≤ MOST_UNITS },
 }
 
 impl<'a> TestedMonth<'a> {
     /// All tests of a month, in their order.
     pub(crate) fn test(pools: [i64; 13], rows: &'a [[u32; 7]], cells: usize) -> Result<Self, Fault>
-        ensures told { answer_by (λ _. tt) result ≡ charge_rule pools rows.now cells }
+        ensures answered { answer_by (λ _. tt) result ≡ charge_rule pools rows.now cells }
         ensures kept { IfOk result (λ m. (m.pools ≡ pools) × (m.units.rows.now ≡ rows.now) × (cells ≡ 13 * length rows.now)) }
     {
         if rows.len().checked_mul(13) != Some(cells) {
             return Err(Layer::Ledger.refuses(Refusal::Length));
         }
-        if rows.is_empty() || rows.len() > 200 {
+        if !count_lawful(rows.len()) {
             return Err(Layer::Ledger.refuses(Refusal::Count));
         }
         let units = Usage { rows };

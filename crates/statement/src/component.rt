@@ -3,10 +3,11 @@ ghost use Rattle.std.specs.Prelude.{◌≡◌, ℕ, ◌+◌, ◌<◌, ◌≤◌,
 ghost use Rattle.cents.specs.Cutting.{sum_z};
 ghost use Rattle.statement.specs.Columns.{kind_of};
 ghost use Rattle.statement.specs.Charges.{charge, charged};
+ghost use Rattle.limits.specs.declared.TheConstants.{MOST_CENTS, MOST_SHARED};
 
+use crate::charge::ComponentCharge;
 use crate::checks::TestedMonth;
 use crate::kind::Kind;
-use charges_text::charges::ComponentCharge;
 use sharing::rule::Rule;
 
 /// The place of the kind that the component at a place is charged by.
@@ -48,10 +49,10 @@ impl Component {
 }
 
 /// What is left of a pool that some cells were charged. Shares of a pool stay near it together, the
-/// first of them as well as all, so 64 bits hold what is left after each.
+/// first of them as well as all, so what is left after each fits 64 bits.
 fn balance_of(pool: i64, cells: &[i64]) -> i64
-    requires within { unsigned_abs pool ≤ 4000000000 }
-    requires near { (k : ℕ) → unsigned_abs (sum_z (take k cells.now)) ≤ 5000000000 + k }
+    requires within { unsigned_abs pool ≤ MOST_CENTS }
+    requires near { (k : ℕ) → unsigned_abs (sum_z (take k cells.now)) ≤ MOST_SHARED + k }
     ensures { result ≡ pool -ℤ sum_z cells.now }
 {
     let mut balance = pool;

@@ -2,11 +2,11 @@
 ghost use Rattle.std.specs.Prelude.{◌≡◌, ◌*◌, ◌<◌, length, MatchResult};
 ghost use Rattle.refusal.specs.Answers.{answer_by};
 ghost use Rattle.statement.specs.Checks.{charge_rule};
-ghost use Rattle.statement.specs.Charges.{components, cells, member_charge, member_charges};
+ghost use Rattle.statement.specs.Charges.{component_charges, cells, IsCharged, member_charge, member_charges};
 
+use crate::charge::ComponentCharge;
 use crate::checks::TestedMonth;
 use crate::component::Component;
-use charges_text::charges::ComponentCharge;
 use refusal::Fault;
 use sharing::rule::Rule;
 use std::array;
@@ -15,7 +15,7 @@ impl TestedMonth<'_> {
     /// Charges all components: their cells go into the statement, component by component.
     fn charge<R: Rule>(&self, rule: &R, statement: &mut [i64]) -> [ComponentCharge; 13]
         requires { length statement.old ≡ 13 * length self.now.units.rows.now }
-        ensures value { result ≡ components (R.shares rule.now) self.now.pools self.now.units.rows.now 13 }
+        ensures value { result ≡ component_charges (R.shares rule.now) self.now.pools self.now.units.rows.now 13 }
         ensures cells { statement.new ≡ cells (R.shares rule.now) self.now.pools self.now.units.rows.now 13 }
     {
         let members = self.units.rows.len();
@@ -25,7 +25,6 @@ impl TestedMonth<'_> {
             balance: 0,
         };
         let mut charges = [blank; 13];
-        // The rows by their bounds: after `chunks_exact_mut` nothing is known of the statement.
         for (place, charge) in charges.iter_mut().enumerate() {
             let component = Component { place };
             let start = place * members;
@@ -44,8 +43,8 @@ pub fn charge_month<R: Rule>(
     units: &[[u32; 7]],
     statement: &mut [i64],
 ) -> Result<[ComponentCharge; 13], Fault>
-    ensures told { answer_by (λ _. tt) result ≡ charge_rule pools units.now (length statement.old) }
-    ensures done { MatchResult result (λ charges. (charges ≡ components (R.shares rule.now) pools units.now 13) × (statement.new ≡ cells (R.shares rule.now) pools units.now 13)) (λ _. statement.new ≡ statement.old) }
+    ensures answered { answer_by (λ _. tt) result ≡ charge_rule pools units.now (length statement.old) }
+    ensures done { MatchResult result (λ charges. IsCharged (R.shares rule.now) pools units.now charges statement.new) (λ _. statement.new ≡ statement.old) }
 {
     let month = TestedMonth::test(pools, units, statement.len())?;
     Ok(month.charge(rule, statement))

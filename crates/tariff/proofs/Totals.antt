@@ -7,9 +7,10 @@ use Rattle.cents.proofs.Magnitudes.{inside_abs}
 use Rattle.cents.proofs.Tabulated.{tabulated}
 use Rattle.cents.proofs.SignedSums.{sum_append}
 use Rattle.cents.proofs.Parts.{cut_inside, cut_sum, cut_length}
-use Rattle.tariff.specs.Heads.{at, Small}
+use Rattle.tariff.specs.Heads.{at, AmountsInRange}
 use Rattle.tariff.specs.Sheets.{thousandths}
-use Rattle.tariff.specs.Costs.{Bounded, halves, settlement_weights, service, settlement, divided, managed, service_costs, components, costs}
+use Rattle.tariff.specs.Costs.{Bounded, halves, settlement_weights, service, settlement, divided, managed, service_costs, component_costs, costs}
+use Rattle.limits.specs.declared.TheConstants.{MOST_COST, MOST_CENTS}
 
 cut_bounded : (n : ℕ) (a : ℤ) (ws : List ℕ) → nat_abs a ≤ n → Bounded n (cut a ws)
 cut_bounded n a ws h k = omega (arith, inside_abs a (at (cut a ws) k) (cut_inside a ws k), h)
@@ -23,7 +24,7 @@ bounded_push : (n : ℕ) (x : ℤ) (xs : List ℤ) → nat_abs x ≤ n → Bound
 bounded_push n x xs h k zero = h
 bounded_push n x xs h k (suc i) = k i
 
-components_bounded : (n : ℕ) (split : List ℕ) (five : List ℤ) → Bounded n five → Bounded n (components split five)
+components_bounded : (n : ℕ) (split : List ℕ) (five : List ℤ) → Bounded n five → Bounded n (component_costs split five)
 components_bounded n split five h =
     let two = cut (at five 1) (halves (get_or split 0 0)) in
     let three = cut (at five 2) (halves (get_or split 1 0)) in
@@ -39,19 +40,19 @@ five_bounded n a b c d e ha hb hc hd he =
     (bounded_push n b (c ∷ d ∷ e ∷ []) hb (bounded_push n c (d ∷ e ∷ []) hc (bounded_push n d (e ∷ []) hd (bounded_push n e [] he (λ i. omega arith)))))
 
 -- a service bears a part of division cost, a part of management cost and a head of its own
-services_bounded : (division management : List ℕ) (heads : List ℤ) → Small heads → Bounded 12000000000 (service_costs division management heads)
+services_bounded : (division management : List ℕ) (heads : List ℤ) → AmountsInRange heads → Bounded MOST_COST (service_costs division management heads)
 services_bounded division management heads h =
     let p = divided division heads in
     let m = managed division management heads in
-    let ps = cut_bounded 4000000000 (at heads 0) division (h 0) in
-    let ms = cut_bounded 4000000000 (at p 4) management (ps 4) in
-    let one : (i : ℕ) → nat_abs (service p m heads i) ≤ 12000000000 = λ i. omega (arith, ints, ps i, ms i, h (i + 1)) in
-    let last : nat_abs (settlement p heads) ≤ 12000000000 = omega (arith, ints, ps 5, h 5) in
-    five_bounded 12000000000 (service p m heads 0) (service p m heads 1) (service p m heads 2) (service p m heads 3) (settlement p heads) (one 0) (one 1) (one 2) (one 3) last
+    let ps = cut_bounded MOST_CENTS (at heads 0) division (h 0) in
+    let ms = cut_bounded MOST_CENTS (at p 4) management (ps 4) in
+    let one : (i : ℕ) → nat_abs (service p m heads i) ≤ MOST_COST = λ i. omega (arith, ints, ps i, ms i, h (i + 1)) in
+    let last : nat_abs (settlement p heads) ≤ MOST_COST = omega (arith, ints, ps 5, h 5) in
+    five_bounded MOST_COST (service p m heads 0) (service p m heads 1) (service p m heads 2) (service p m heads 3) (settlement p heads) (one 0) (one 1) (one 2) (one 3) last
 
-pub costs_bounded : (division management split : List ℕ) (heads : List ℤ) → Small heads → Bounded 12000000000 (costs division management split heads)
+pub costs_bounded : (division management split : List ℕ) (heads : List ℤ) → AmountsInRange heads → Bounded MOST_COST (costs division management split heads)
 costs_bounded division management split heads h =
-    components_bounded 12000000000 split (service_costs division management heads) (services_bounded division management heads h)
+    components_bounded MOST_COST split (service_costs division management heads) (services_bounded division management heads h)
 
 -- a weight or a split is at most a whole
 thousandths_at : (ns : List ℕ) → thousandths ns ≡ true → (k : ℕ) → get_or ns k 0 ≤ 1000
@@ -65,7 +66,7 @@ settlement_whole = refl
 
 -- thirteen components add up to the five costs that they are cut from
 components_sum : (split : List ℕ) (a b c d e : ℤ) → get_or split 0 0 ≤ 1000 → get_or split 1 0 ≤ 1000
-    → sum_z (components split (a ∷ b ∷ c ∷ d ∷ e ∷ [])) ≡ a +ℤ (b +ℤ (c +ℤ (d +ℤ e)))
+    → sum_z (component_costs split (a ∷ b ∷ c ∷ d ∷ e ∷ [])) ≡ a +ℤ (b +ℤ (c +ℤ (d +ℤ e)))
 components_sum split a b c d e h k =
     let two = cut b (halves (get_or split 0 0)) in
     let three = cut c (halves (get_or split 1 0)) in
@@ -89,7 +90,7 @@ costs_sum division management split heads ld lm lh hd hm t =
     let c = components_sum split (service p m heads 0) (service p m heads 1) (service p m heads 2) (service p m heads 3) (settlement p heads) (thousandths_at split t 0) (thousandths_at split t 1) in
     omega (arith, ints, c, e, f, h)
 
--- the parts laid side by side are the thirteen places
+-- the parts side by side are the thirteen places
 pub joined_list : (a d : ℤ) (b c s : List ℤ) → length b ≡ 2 → length c ≡ 2 → length s ≡ 7
     → a ∷ at b 0 ∷ at b 1 ∷ at c 0 ∷ at c 1 ∷ d ∷ at s 0 ∷ at s 1 ∷ at s 2 ∷ at s 3 ∷ at s 4 ∷ at s 5 ∷ at s 6 ∷ [] ≡ a ∷ (b ++ (c ++ (d ∷ s)))
 joined_list a d b c s lb lc ls =
@@ -97,11 +98,11 @@ joined_list a d b c s lb lc ls =
     ∙ ap (λ (xs : List ℤ). a ∷ at b 0 ∷ at b 1 ∷ (xs ++ (d ∷ s))) (tabulated (pos 0) 2 c lc)
     ∙ ap (λ (xs : List ℤ). a ∷ at b 0 ∷ at b 1 ∷ at c 0 ∷ at c 1 ∷ d ∷ xs) (tabulated (pos 0) 7 s ls))
 
-pub part_small : (a x : ℤ) (ws : List ℕ) (zs : List ℤ) → x ≡ a → nat_abs a ≤ 4000000000 → zs ≡ cut x ws → Small zs
-part_small a x ws zs e h f = rw (f, e) (cut_bounded 4000000000 a ws h)
+pub part_small : (a x : ℤ) (ws : List ℕ) (zs : List ℤ) → x ≡ a → nat_abs a ≤ MOST_CENTS → zs ≡ cut x ws → AmountsInRange zs
+part_small a x ws zs e h f = rw (f, e) (cut_bounded MOST_CENTS a ws h)
 
 pub components_are : (five two three seven : List ℤ) (split : List ℕ) (a b c d e : ℤ)
     → a ≡ at five 0 → b ≡ at five 1 → c ≡ at five 2 → d ≡ at five 3 → e ≡ at five 4
     → two ≡ cut b (halves (get_or split 0 0)) → three ≡ cut c (halves (get_or split 1 0)) → seven ≡ cut e settlement_weights
-    → a ∷ (two ++ (three ++ (d ∷ seven))) ≡ components split five
+    → a ∷ (two ++ (three ++ (d ∷ seven))) ≡ component_costs split five
 components_are five two three seven split a b c d e ea eb ec ed ee p q r = rw (p, q, r, ea, eb, ec, ed, ee)

@@ -41,14 +41,14 @@ abbrev pub service_costs : List ℕ → List ℕ → List ℤ → List ℤ
 service_costs division management heads = services (divided division heads) (managed division management heads) heads
 
 -- 9-1; 9-2 and 9-3 in two; 9-4; settlement in seven
-abbrev pub components : List ℕ → List ℤ → List ℤ
-components split five =
+abbrev pub component_costs : List ℕ → List ℤ → List ℤ
+component_costs split five =
     at five 0
     ∷ (cut (at five 1) (halves (slice_index split 0))
     ++ (cut (at five 2) (halves (slice_index split 1)) ++ (at five 3 ∷ cut (at five 4) settlement_weights)))
 
 abbrev pub costs : List ℕ → List ℕ → List ℕ → List ℤ → List ℤ
-costs division management split heads = components split (service_costs division management heads)
+costs division management split heads = component_costs split (service_costs division management heads)
 
 -- no amount lies beyond a bound
 abbrev pub Bounded : ℕ → List ℤ → Type 0

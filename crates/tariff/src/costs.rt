@@ -2,6 +2,7 @@
 ghost use Rattle.std.specs.Prelude.{◌≡◌, ◌≤◌, ◌∷◌, ◌++◌};
 ghost use Rattle.cents.specs.Cutting.{cut, sum_z};
 ghost use Rattle.tariff.specs.Costs.{halves, service_costs, costs, Bounded};
+ghost use Rattle.limits.specs.declared.TheConstants.{MOST_COST};
 
 use crate::heads::Heads;
 use crate::parts::Parts;
@@ -50,11 +51,12 @@ impl Sheet {
         ]
     }
 
-    /// The thirteen component costs of six heads, which add up to them.
+    /// The thirteen component costs of six heads, which add up to them. None is beyond ±12,000,000,000,
+    /// three times the most of a head.
     pub fn costs(&self, heads: &Heads) -> [i64; 13]
         ensures value { result ≡ costs self.now.division self.now.management self.now.split heads.now.amounts }
         ensures whole { sum_z result ≡ sum_z heads.now.amounts }
-        ensures small { Bounded 12000000000 result }
+        ensures small { Bounded MOST_COST result }
     {
         let [first, second, third, fourth, settlement] = self.service_costs(heads);
         let split = self.split();

@@ -1,7 +1,7 @@
 //! How division cost is parted, and its management part again.
 ghost use Rattle.std.specs.Prelude.{◌≡◌, ◌<◌};
 ghost use Rattle.tariff.specs.Costs.{divided, managed, service, settlement};
-ghost use Rattle.tariff.specs.Heads.{Small};
+ghost use Rattle.tariff.specs.Heads.{AmountsInRange};
 
 use crate::heads::Heads;
 use crate::sheet::Sheet;
@@ -14,9 +14,9 @@ pub(crate) struct Parts {
     division: [i64; 6],
     management: [i64; 4],
     heads: [i64; 6],
-    ghost divided: { Small division },
-    ghost managed: { Small management },
-    ghost small: { Small heads },
+    ghost divided: { AmountsInRange division },
+    ghost managed: { AmountsInRange management },
+    ghost small: { AmountsInRange heads },
 }
 
 impl Parts {

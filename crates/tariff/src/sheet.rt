@@ -37,8 +37,10 @@ impl Sheet {
         management: [u32; 4],
         split: [u32; 2],
     ) -> Result<(), Fault>
-        ensures told { answer result ≡ sheet_rule division management split }
-        ensures after { MatchResult result (λ _. (self.new.division ≡ division) × (self.new.management ≡ management) × (self.new.split ≡ split)) (λ _. self.new ≡ self.old) }
+        ensures answered { answer result ≡ sheet_rule division management split }
+        ensures after { MatchResult result
+            (λ _. (self.new.division ≡ division) × (self.new.management ≡ management) × (self.new.split ≡ split))
+            (λ _. self.new ≡ self.old) }
     {
         if !(each_at_most(division, 1000)
             && each_at_most(management, 1000)

@@ -1,8 +1,9 @@
 -- From a member's eleven facts to its units of the seven kinds.
 use Rattle.std.specs.Prelude.{ℕ, ◌+◌, ◌-◌, ◌*◌, Bool, cond, ◌&&◌, List, [], ◌∷◌, Some, None, Option, nat_le, slice_index}
 use Rattle.units.specs.declared.facts.Facts.{Facts}
+use Rattle.limits.specs.declared.TheConstants.{MOST_FACT}
 
--- the facts in the order in which a row tells them
+-- the facts in the order in which a row gives them
 abbrev pub facts_of : List ℕ → Facts
 facts_of row = record {
   transmission = slice_index row 0;
@@ -19,7 +20,7 @@ facts_of row = record {
 }
 
 abbrev pub most : ℕ → Bool
-most n = nat_le n 100000000
+most n = nat_le n MOST_FACT
 
 abbrev pub energy_lawful : Facts → Bool
 energy_lawful f = most f.transmission && (nat_le f.wheel_through f.transmission && (most f.generation && most f.virtual_mwh))

@@ -2,8 +2,7 @@
 ghost use Rattle.std.specs.Prelude.{◌≡◌};
 ghost use Rattle.units.specs.Kinds.{lawful, energy_lawful, bids_lawful, capacity_lawful, units_of, facts_of};
 
-/// The largest value of any one fact.
-const MOST: u32 = 100_000_000;
+use limits::MOST_FACT;
 
 /// What one member did in a month, as its office reports it.
 #[derive(Clone, Copy, PartialEq, Eq, Debug)]
@@ -72,24 +71,26 @@ impl Facts {
     fn energy_lawful(&self) -> bool
         ensures { result ≡ energy_lawful self.now }
     {
-        self.transmission <= MOST
+        self.transmission <= MOST_FACT
             && self.wheel_through <= self.transmission
-            && self.generation <= MOST
-            && self.virtual_mwh <= MOST
+            && self.generation <= MOST_FACT
+            && self.virtual_mwh <= MOST_FACT
     }
 
     fn bids_lawful(&self) -> bool
         ensures { result ≡ bids_lawful self.now }
     {
-        self.ftr <= MOST
-            && self.obligation_bids <= MOST
-            && self.option_bids <= MOST
-            && self.segments <= MOST
+        self.ftr <= MOST_FACT
+            && self.obligation_bids <= MOST_FACT
+            && self.option_bids <= MOST_FACT
+            && self.segments <= MOST_FACT
     }
 
     fn capacity_lawful(&self) -> bool
         ensures { result ≡ capacity_lawful self.now }
     {
-        self.capacity_obligation <= MOST && self.capacity_resource <= MOST && self.invoices <= MOST
+        self.capacity_obligation <= MOST_FACT
+            && self.capacity_resource <= MOST_FACT
+            && self.invoices <= MOST_FACT
     }
 }

@@ -2,19 +2,20 @@
 //! six amounts. It may not lapse.
 mod calls;
 
-ghost use Rattle.std.specs.Prelude.{◌≡◌, ◌≤◌, length, unsigned_abs};
+ghost use Rattle.std.specs.Prelude.{◌≡◌, ◌≤◌, unsigned_abs};
 ghost use Rattle.cents.specs.Cutting.{sum_z};
-ghost use Rattle.tariff.specs.Heads.{Small};
+ghost use Rattle.tariff.specs.Heads.{AmountsInRange};
 ghost use Rattle.voucher.specs.declared.voucher.State.TheVariants.{Balanced, Ended};
+ghost use Rattle.limits.specs.declared.TheConstants.{MOST_CONTROL};
 
-/// Where a voucher stands.
+/// The state of a voucher.
 #[derive(Clone, Copy, PartialEq, Eq, Debug)]
 pub enum State {
     /// Lines are taken; nothing is known of their sum.
     Open,
     /// The lines add up to the control total.
     Balanced,
-    /// The amounts are handed back. The calls that end a voucher take it apart, so none stands so.
+    /// The amounts are handed back. The calls that end a voucher take it apart, so no voucher is in this state.
     Ended,
 }
 
@@ -23,8 +24,8 @@ pub struct Voucher {
     control: i64,
     amounts: [i64; 6],
     state: State,
-    ghost bounded: { unsigned_abs control ≤ 24000000000 },
-    ghost small: { Small amounts },
+    ghost control_in_range: { unsigned_abs control ≤ MOST_CONTROL },
+    ghost small: { AmountsInRange amounts },
     ghost even: { (state ≡ Balanced → sum_z amounts ≡ control) },
 }
 

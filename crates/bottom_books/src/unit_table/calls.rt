@@ -3,17 +3,19 @@ ghost use Rattle.std.specs.Prelude.{◌≡◌, ℕ, ◌-◌, ◌<◌, ◌≤◌,
 ghost use Rattle.refusal.specs.Answers.{answer, answer_by, bare, done};
 ghost use Rattle.book.specs.Asking.{ask_rule};
 ghost use Rattle.book.specs.Correcting.{same_pair};
-ghost use Rattle.bottom_books.specs.Tables.{Small, cell, rows_rule, table_rule};
+ghost use Rattle.bottom_books.specs.Tables.{UnitsInRange, cell, rows_rule, table_rule};
+ghost use Rattle.bottom_books.specs.Filled.{Filled};
 
 use crate::measure::Measure;
 use crate::unit_table::UnitTable;
 use book::asking::check_pair;
+use limits::{FIRST_MONTH, MOST_MEMBERS, MOST_UNITS, count_lawful, month_lawful};
 use refusal::{Fault, Layer, Refusal};
 
 /// Reads rows as units, into memory with a place for each.
 fn read_rows<R, M: Measure<R>>(measure: &M, rows: &[R], out: &mut [[u32; 7]]) -> Result<(), Fault>
     requires { length out.old ≡ length rows.now }
-    ensures told { answer result ≡ bare (rows_rule (M.reads measure.now) rows.now) }
+    ensures answered { answer result ≡ bare (rows_rule (M.reads measure.now) rows.now) }
     ensures rows { OnOk result (rows_rule (M.reads measure.now) rows.now ≡ done out.new) }
 {
     for (i, row) in rows.iter().enumerate() {
@@ -24,14 +26,14 @@ fn read_rows<R, M: Measure<R>>(measure: &M, rows: &[R], out: &mut [[u32; 7]]) ->
     Ok(())
 }
 
-/// Rows read as units, into the first of 200 places; the others have none.
-fn fresh_rows<R, M: Measure<R>>(measure: &M, rows: &[R]) -> Result<[[u32; 7]; 200], Fault>
-    requires { length rows.now ≤ 200 }
-    ensures told { answer_by (λ fresh. take (length rows.now) fresh) result ≡ rows_rule (M.reads measure.now) rows.now }
-    ensures long { IfOk result (λ fresh. length fresh ≡ 200) }
-    ensures small { IfOk result (λ fresh. Small fresh) }
+/// Rows read as units, into the first of the places for members; the others have none.
+fn fresh_rows<R, M: Measure<R>>(measure: &M, rows: &[R]) -> Result<[[u32; 7]; MOST_MEMBERS], Fault>
+    requires { length rows.now ≤ MOST_MEMBERS }
+    ensures answered { answer_by (λ fresh. take (length rows.now) fresh) result ≡ rows_rule (M.reads measure.now) rows.now }
+    ensures long { IfOk result (λ fresh. length fresh ≡ MOST_MEMBERS) }
+    ensures small { IfOk result (λ fresh. UnitsInRange fresh) }
 {
-    let mut fresh = [[0u32; 7]; 200];
+    let mut fresh = [[0u32; 7]; MOST_MEMBERS];
     read_rows(measure, rows, &mut fresh[..rows.len()])?;
     Ok(fresh)
 }
@@ -39,14 +41,14 @@ fn fresh_rows<R, M: Measure<R>>(measure: &M, rows: &[R]) -> Result<[[u32; 7]; 20
 impl UnitTable {
     /// One member without units, in the first month: the place in which a book is made.
     pub(crate) fn blank() -> UnitTable
-        ensures month { result.month ≡ 24277 }
+        ensures month { result.month ≡ FIRST_MONTH }
         ensures count { result.count ≡ 1 }
         ensures units { (kind member : ℕ) → cell result.rows kind member ≡ 0 }
     {
         UnitTable {
-            month: 24_277,
+            month: FIRST_MONTH,
             count: 1,
-            rows: [[0; 7]; 200],
+            rows: [[0; 7]; MOST_MEMBERS],
         }
     }
 
@@ -57,13 +59,15 @@ impl UnitTable {
         measure: &M,
         rows: &[R],
     ) -> Result<(), Fault>
-        ensures told { answer result ≡ bare (table_rule (M.reads measure.now) month rows.now) }
-        ensures after { MatchResult result (λ _. (self.new.month ≡ month) × (self.new.count ≡ length rows.now) × (table_rule (M.reads measure.now) month rows.now ≡ done (take (length rows.now) self.new.rows))) (λ _. self.new ≡ self.old) }
+        ensures answered { answer result ≡ bare (table_rule (M.reads measure.now) month rows.now) }
+        ensures after { MatchResult result
+            (λ _. Filled self.new month rows.now (table_rule (M.reads measure.now) month rows.now))
+            (λ _. self.new ≡ self.old) }
     {
-        if !(24_277..=35_999).contains(&month) {
+        if !month_lawful(month) {
             return Err(Layer::Book.refuses(Refusal::Range));
         }
-        if !(1..=200).contains(&rows.len()) {
+        if !count_lawful(rows.len()) {
             return Err(Layer::Book.refuses(Refusal::Count));
         }
         let fresh = fresh_rows(measure, rows)?;
@@ -87,7 +91,7 @@ impl UnitTable {
     pub(crate) fn put(&mut self, kind: u32, member: u32, units: u32)
         requires kind { (1 ≤ kind) × (kind ≤ 7) }
         requires member { member < self.old.count }
-        requires units { units ≤ 2000000000 }
+        requires units { units ≤ MOST_UNITS }
         ensures cells { (k m : ℕ) → 1 ≤ k → cell self.new.rows k m ≡ (if same_pair (k, m) (kind, member) then units else cell self.old.rows k m) }
         ensures kept { (self.new.month ≡ self.old.month) × (self.new.count ≡ self.old.count) }
     {

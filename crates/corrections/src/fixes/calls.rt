@@ -1,13 +1,14 @@
 //! Looking a pair up, and keeping its units.
-ghost use Rattle.std.specs.Prelude.{◌≡◌, ℕ, ◌≤◌, [], if◌then◌else◌, Some, MatchResult, OnOk, position};
+ghost use Rattle.std.specs.Prelude.{◌≡◌, ◌≤◌, [], MatchResult, OnOk, position};
 ghost use Rattle.refusal.specs.Answers.{answer, bare};
-ghost use Rattle.book.specs.Correcting.{same_pair, taken_rule};
+ghost use Rattle.book.specs.Correcting.{taken_rule};
 ghost use Rattle.corrections.specs.Kept.{kept, pairs};
-ghost use Rattle.corrections.specs.Fixes.{is_for, seek};
+ghost use Rattle.corrections.specs.Fixes.{Keeps, is_for, seek};
 ghost use Rattle.corrections.specs.Pairs.{pairs_with, takes_pair};
 
 use crate::fixes::{Fix, Fixes};
 use crate::pair::Pair;
+use limits::{MOST_PAIRS, MOST_UNITS};
 use refusal::{Fault, Layer, Refusal};
 
 impl Fixes {
@@ -21,7 +22,7 @@ impl Fixes {
         };
         Fixes {
             used: 0,
-            list: [blank; 64],
+            list: [blank; MOST_PAIRS],
         }
     }
 
@@ -34,7 +35,6 @@ impl Fixes {
             .position(|fix| pair == fix.pair)
     }
 
-    // By `find`, as `seek` is; by way of `place` the check alone did not prove what it ensures.
     /// The units that a pair was corrected to.
     pub(crate) fn look(&self, pair: Pair) -> Option<u32>
         ensures { result ≡ seek (kept self.now) pair.kind pair.member }
@@ -50,20 +50,22 @@ impl Fixes {
     pub(crate) fn takes(&self, pair: Pair) -> bool
         ensures { result ≡ takes_pair (pairs self.now) (pair.kind, pair.member) }
     {
-        self.place(pair).is_some() || self.used < 64
+        self.place(pair).is_some() || self.used < MOST_PAIRS
     }
 
     /// Keeps a pair's units; refused where no place is left for a new pair, and then nothing changes.
     #[tactic(auto, using(crate::proofs::Places::takes_kept))]
     pub(crate) fn put(&mut self, pair: Pair, units: u32) -> Result<(), Fault>
-        requires { units ≤ 2000000000 }
-        ensures told { answer result ≡ bare (taken_rule (takes_pair (pairs self.old) (pair.kind, pair.member)) units) }
+        requires { units ≤ MOST_UNITS }
+        ensures answered { answer result ≡ bare (taken_rule (takes_pair (pairs self.old) (pair.kind, pair.member)) units) }
         ensures pairs { OnOk result (pairs self.new ≡ pairs_with (pairs self.old) (pair.kind, pair.member)) }
-        ensures after { MatchResult result (λ _. (k m : ℕ) → seek (kept self.new) k m ≡ (if same_pair (k, m) (pair.kind, pair.member) then Some units else seek (kept self.old) k m)) (λ _. self.new ≡ self.old) }
+        ensures after { MatchResult result
+            (λ _. Keeps (kept self.old) (kept self.new) (pair.kind, pair.member) units)
+            (λ _. self.new ≡ self.old) }
     {
         match self.place(pair) {
             Some(at) => self.list[at] = Fix { pair, units },
-            None if self.used < 64 => {
+            None if self.used < MOST_PAIRS => {
                 self.list[self.used] = Fix { pair, units };
                 self.used += 1;
             }

@@ -4,7 +4,7 @@ ghost use Rattle.refusal.specs.Answers.{bare, after};
 ghost use Rattle.tariff.specs.Heads.{book_rule};
 ghost use Rattle.voucher.specs.declared.voucher.State.TheVariants.{Balanced};
 ghost use Rattle.ledger.specs.declared.line.Line.{Line};
-ghost use Rattle.ledger.specs.Booking.{booking_told};
+ghost use Rattle.ledger.specs.Booking.{booking_answer};
 ghost use Rattle.ledger.specs.Histories.{booked, history_with};
 ghost use Rattle.ledger.specs.Kept.{Promise, Invariant};
 ghost use Rattle.ledger.specs.Ledgers.{HoldsAfter};
@@ -19,12 +19,16 @@ impl<R: Rule> Ledger<R> {
     /// hands back the six amounts, and the ledger is as it was.
     pub fn book(&mut self, voucher: Voucher) -> Result<(), Unbooked>
         requires { voucher.state ≡ Balanced }
-        ensures told { booking_told result ≡ bare (book_rule self.old.heads.amounts voucher.amounts) }
+        ensures answered { booking_answer result ≡ bare (book_rule self.old.heads.amounts voucher.amounts) }
         ensures amounts { IfErr result (λ unbooked. unbooked.amounts ≡ voucher.amounts) }
-        ensures heads { self.new.heads.amounts ≡ after (book_rule self.old.heads.amounts voucher.amounts) (λ sums. sums) self.old.heads.amounts }
-        ensures same { (self.new.rule ≡ self.old.rule) × (self.new.sheet ≡ self.old.sheet) × (self.new.accounts ≡ self.old.accounts) }
-        ensures promise { (file : List Line) → HoldsAfter Promise self.old file self.new file (history_with result (booked voucher.amounts)) }
-        ensures invariant { (file : List Line) → HoldsAfter Invariant self.old file self.new file (history_with result (booked voucher.amounts)) }
+        ensures heads { self.new.heads.amounts
+            ≡ after (book_rule self.old.heads.amounts voucher.amounts) (λ sums. sums) self.old.heads.amounts }
+        ensures same { (self.new.rule ≡ self.old.rule) × (self.new.sheet ≡ self.old.sheet)
+            × (self.new.accounts ≡ self.old.accounts) }
+        ensures promise { (file : List Line)
+            → HoldsAfter Promise self.old file self.new file (history_with result (booked voucher.amounts)) }
+        ensures invariant { (file : List Line)
+            → HoldsAfter Invariant self.old file self.new file (history_with result (booked voucher.amounts)) }
     {
         let amounts = voucher.spend();
         self.heads

@@ -1,6 +1,6 @@
 //! What a ledger holds.
 ghost use Rattle.std.specs.Prelude.{◌≡◌};
-ghost use Rattle.ledger.specs.Standings.{balances};
+ghost use Rattle.ledger.specs.States.{balances};
 
 use crate::ledger::Ledger;
 use sharing::rule::Rule;

@@ -1,12 +1,13 @@
 //! Resettling a month on file.
 ghost use Rattle.std.specs.Prelude.{◌≡◌, ◌-◌, if◌then◌else◌, Some, None};
 ghost use Rattle.std.specs.Option.{option_map};
-ghost use Rattle.refusal.specs.Answers.{answer, bare, after};
+ghost use Rattle.refusal.specs.Answers.{answer, bare};
 ghost use Rattle.ledger.specs.Readings.{reading_of};
+ghost use Rattle.ledger.specs.Billing.{state_left, cells_left};
 ghost use Rattle.ledger.specs.Resettling.{reconciled};
 ghost use Rattle.ledger.specs.Histories.{resettled, history_with};
 ghost use Rattle.ledger.specs.Kept.{Promise, Invariant};
-ghost use Rattle.ledger.specs.Ledgers.{resettling_of, standing_of, HoldsAfter};
+ghost use Rattle.ledger.specs.Ledgers.{resettling_of, state_of, HoldsAfter};
 
 use crate::ledger::Ledger;
 use crate::line::Line;
@@ -38,12 +39,17 @@ impl<R: Rule> Ledger<R> {
         file: &mut [Line],
         statement: &mut [i64],
     ) -> Result<(), Fault>
-        ensures told { answer result ≡ bare (resettling_of self.old file.old (reading_of B.Book book.now) component statement.old) }
-        ensures standing { standing_of self.new file.new ≡ after (resettling_of self.old file.old (reading_of B.Book book.now) component statement.old) (λ left. left.standing) (standing_of self.old file.old) }
-        ensures cells { statement.new ≡ after (resettling_of self.old file.old (reading_of B.Book book.now) component statement.old) (λ left. left.cells) statement.old }
+        ensures answered { answer result
+            ≡ bare (resettling_of self.old file.old (reading_of B.Book book.now) component statement.old) }
+        ensures state { state_of self.new file.new
+            ≡ state_left (resettling_of self.old file.old (reading_of B.Book book.now) component statement.old) (state_of self.old file.old) }
+        ensures cells { statement.new
+            ≡ cells_left (resettling_of self.old file.old (reading_of B.Book book.now) component statement.old) statement.old }
         ensures same { (self.new.rule ≡ self.old.rule) × (self.new.sheet ≡ self.old.sheet) }
-        ensures promise { HoldsAfter Promise self.old file.old self.new file.new (history_with result (resettled (component - 1) (reading_of B.Book book.now) statement.new)) }
-        ensures invariant { HoldsAfter Invariant self.old file.old self.new file.new (history_with result (resettled (component - 1) (reading_of B.Book book.now) statement.new)) }
+        ensures promise { HoldsAfter Promise self.old file.old self.new file.new
+            (history_with result (resettled (component - 1) (reading_of B.Book book.now) statement.new)) }
+        ensures invariant { HoldsAfter Invariant self.old file.old self.new file.new
+            (history_with result (resettled (component - 1) (reading_of B.Book book.now) statement.new)) }
     {
         let Some(component) = reconciled(component) else {
             return Err(Layer::Ledger.refuses(Refusal::Kind));

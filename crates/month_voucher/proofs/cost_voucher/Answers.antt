@@ -5,13 +5,13 @@ use Rattle.month_voucher.specs.Costs.{fill_rule}
 use Rattle.month_voucher.proofs.Filled.{cost_rule_lem, cost_opened, cost_full, unbare}
 use Rattle.month_voucher.proofs.cost_voucher.Goals as goal
 
-pub returns-in-Err-clause-told : goal.returns-in-Err-clause-told
-returns-in-Err-clause-told c =
+pub returns-in-Err-clause-answered : goal.returns-in-Err-clause-answered
+returns-in-Err-clause-answered c =
     let v = c.in_ok-voucher.voucher in
     let e = to_z-of_z w64 c.args.control c.ranges.control in
     let o = c.in_ok-voucher.ensures in
     let k = cost_opened c.args.control _ c.args.cost v.amounts v.control v.state e o in
-    unbare (fill_rule v.control v.amounts c.args.cost) _ _ _ c.in-Err.ensures.told
+    unbare (fill_rule v.control v.amounts c.args.cost) _ _ _ c.in-Err.ensures.answered
     ∙ ap (λ (z : ℤ). fill_rule z v.amounts c.args.cost) k
     ∙ sym (cost_rule_lem c.args.control _ c.args.cost v.amounts v.control v.state e o)
 
@@ -23,5 +23,5 @@ returns-clause-whole c =
     let k = cost_opened c.args.control _ c.args.cost v.amounts v.control v.state e o in
     let f = ap (λ (z : ℤ). fill_rule z v.amounts c.args.cost) (sym k) ∙ c.in_default.ensures.amounts in
     let full = cost_full c.args.control _ c.args.cost v.amounts v.control v.state e o c.fill.new.voucher.amounts (omega arith) f in
-    let held = c.in_default.ensures.control ∙ k in
-    (held, full, ap sum_z (sym full) ∙ c.fill.new.voucher.even c.in_default.ensures.state ∙ held)
+    let same = c.in_default.ensures.control ∙ k in
+    (same, full, ap sum_z (sym full) ∙ c.fill.new.voucher.even c.in_default.ensures.state ∙ same)

@@ -7,11 +7,9 @@ ghost use Rattle.voucher.specs.declared.voucher.State.TheVariants.{Balanced};
 
 use crate::voucher::{State, Voucher};
 use cents::totals::sum_of;
+use limits::MOST_CONTROL;
 use refusal::{Fault, Layer, Refusal};
 use tariff::heads::add_to_head;
-
-/// No control total is beyond this, on either side of 0.
-const MOST_CONTROL: u64 = 24_000_000_000;
 
 impl Voucher {
     /// Opens a voucher for a control total.
@@ -30,7 +28,7 @@ impl Voucher {
 
     /// Adds an amount to a head; a voucher that was balanced is open again.
     pub fn line(&mut self, head: u32, amount: i64) -> Result<(), Fault>
-        ensures told { answer result ≡ bare (line_rule self.old.amounts head amount) }
+        ensures answered { answer result ≡ bare (line_rule self.old.amounts head amount) }
         ensures amounts { self.new.amounts ≡ after (line_rule self.old.amounts head amount) (λ amounts. amounts) self.old.amounts }
         ensures state { self.new.state ≡ line_state (line_rule self.old.amounts head amount) self.old.state }
         ensures control { self.new.control ≡ self.old.control }
@@ -49,7 +47,7 @@ impl Voucher {
 
     /// Balances the voucher: its lines must add up to the control total. Refused, it stays as it was.
     pub fn balance(&mut self) -> Result<(), Fault>
-        ensures told { answer result ≡ balance_rule self.old.control self.old.amounts }
+        ensures answered { answer result ≡ balance_rule self.old.control self.old.amounts }
         ensures state { self.new.state ≡ after (balance_rule self.old.control self.old.amounts) (λ _. Balanced) self.old.state }
         ensures kept { (self.new.control ≡ self.old.control) × (self.new.amounts ≡ self.old.amounts) }
     {

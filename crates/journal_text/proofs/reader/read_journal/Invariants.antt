@@ -9,7 +9,7 @@ use Rattle.journal_text.proofs.reader.read_journal.Given as goal
 -- what the journal says: the entries so far, and those of the rest
 abbrev pub invariant-loop-piece : goal.invariant-loop-piece
 invariant-loop-piece l = record {
-  told : read_journal l.text ≡ ahead l.entries.items (read_rest (slice_get l.entries.items 0) l.line l.rest);
+  answered : read_journal l.text ≡ ahead l.entries.items (read_rest (slice_get l.entries.items 0) l.line l.rest);
   range : All (λ (e : Entry). InRange e.month) l.entries.items;
 }
 

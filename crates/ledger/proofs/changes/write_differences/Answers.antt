@@ -9,6 +9,7 @@ use Rattle.ledger.specs.Resettling.{differences, cents_within}
 use Rattle.ledger.proofs.Overwritten.{front_more, front_end}
 use Rattle.ledger.proofs.Differences.{differences_at, differences_length}
 use Rattle.ledger.proofs.changes.write_differences.Goals as goal
+use Rattle.limits.specs.declared.TheConstants.{MOST_LINE_CENTS}
 
 pub overflow_sub-out : goal.overflow_sub-out
 overflow_sub-out c =
@@ -16,7 +17,7 @@ overflow_sub-out c =
     let line = get_or c.args.lines.now i no_line in
     let zs = to_z-of_z w64 (get_or c.args.shares.now i (pos 0)) (search rules) in
     let zl = to_z-of_z w64 line.cents (search rules) in
-    let h = leb-true (nat_abs line.cents) 6000000000 (and_at (list_all cents_within) cents_within refl (λ _ _. refl) c.args.lines.now i no_line (omega (arith, c.requires.lines)) c.requires.cents) in
+    let h = leb-true (nat_abs line.cents) MOST_LINE_CENTS (and_at (list_all cents_within) cents_within refl (λ _ _. refl) c.args.lines.now i no_line (omega (arith, c.requires.lines)) c.requires.cents) in
     omega (arith, ints, zs, zl, c.requires.shares i, h)
 
 pub loop-i-preserved : goal.loop-i-preserved

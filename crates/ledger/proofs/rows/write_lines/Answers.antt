@@ -1,6 +1,6 @@
 use Rattle.std.proofs.Common.{get_or, pos, arith, w64, rules}
 use Rattle.std.proofs.lemmas.Int.{to_z-of_z}
-use Rattle.ledger.proofs.Laid.{line_more, lines_end}
+use Rattle.ledger.proofs.ByComponent.{line_more, lines_end}
 use Rattle.ledger.proofs.rows.write_lines.Goals as goal
 
 pub loop-i-preserved : goal.loop-i-preserved

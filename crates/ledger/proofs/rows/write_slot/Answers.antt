@@ -2,7 +2,7 @@ use Rattle.std.proofs.Common.{◌≡◌, ◌≤◌, ℕ, ◌+◌, ◌-◌, ◌*�
 use Rattle.std.proofs.lemmas.List.{length-drop, length-take-le}
 use Rattle.statement.specs.Columns.{column}
 use Rattle.ledger.specs.Files.{lines_of}
-use Rattle.ledger.proofs.Laid.{column_at, column_length, row_end, slot_more, slot_none}
+use Rattle.ledger.proofs.ByComponent.{column_at, column_length, row_end, slot_more, slot_none}
 use Rattle.ledger.proofs.rows.write_slot.Goals as goal
 
 pub loop-place-preserved : goal.loop-place-preserved

@@ -8,6 +8,6 @@ use Rattle.statement.proofs.reading.member_row.Goals as goal
 pub returns : goal.returns
 returns g c =
     let count = g.B.Book.count c.args.book.now in
-    let held = g.B.Book.held c.args.book.now in
-    let row : c.loop-i.units-items ≡ book_row held c.args.member = fill_by_all (λ k. held (k + 1) c.args.member) c.loop-i.units-items 7 0 (omega arith) (λ k h. c.loop-i.invariant.1 k (omega arith)) in
+    let units = g.B.Book.units c.args.book.now in
+    let row : c.loop-i.units-items ≡ book_row units c.args.member = fill_by_all (λ k. units (k + 1) c.args.member) c.loop-i.units-items 7 0 (omega arith) (λ k h. c.loop-i.invariant.1 k (omega arith)) in
     ap done row ∙ sym (cond-true (ltb c.args.member count) _ _ (lt-ltb c.args.member count (c.loop-i.invariant.0 (omega arith))))

@@ -1,5 +1,5 @@
 use Rattle.std.proofs.Common.{length}
-use Rattle.bottom_books.proofs.Small.{read_small, padded_small}
+use Rattle.bottom_books.proofs.UnitsInRange.{read_small, padded_small}
 use Rattle.bottom_books.proofs.unit_table.calls.fresh_rows.Goals as goal
 
 pub returns-clause-small : goal.returns-clause-small

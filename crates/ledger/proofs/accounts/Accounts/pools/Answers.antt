@@ -3,7 +3,7 @@ use Rattle.std.proofs.lemmas.List.{ext_get_or}
 use Rattle.std.proofs.lemmas.Int.{to_z-of_z}
 use Rattle.tariff.specs.Heads.{sums}
 use Rattle.statement.proofs.FromFn.{made_from}
-use Rattle.ledger.specs.Standings.{balances, account_at}
+use Rattle.ledger.specs.States.{balances, account_at}
 use Rattle.ledger.proofs.Closed.{pool_at, pools_length}
 use Rattle.ledger.proofs.accounts.Accounts.pools.Goals as goal
 
