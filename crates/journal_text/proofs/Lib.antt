@@ -1,5 +1,6 @@
 pub mod Components
 pub mod Counted
+pub mod FirstLines
 pub mod Lines
 pub mod Months
 pub mod Reading

@@ -35,15 +35,20 @@ fn differing_step<R: Rule + Copy + Drop>(
     Ok((!rest.is_empty()).then_some(stored.orders.len()))
 }
 
+/// The numbers of a stored file.
+fn read(rt: &HostRuntime, name: &str) -> anyhow::Result<Vec<i64>> {
+    let text = fs::read(rt, name)?;
+    Ok(numbers_of(rt.alloc(), text.as_slice())?)
+}
+
 /// Carries out one run step by step; says whether all agree.
 fn agrees(rt: &HostRuntime, number: u32) -> anyhow::Result<bool> {
     let heap = rt.alloc();
     let run_name = format!(in heap; "{number:02}.txt")?;
     let found_name = format!(in heap; "{number:02}.out")?;
-    let run_text = fs::read_to_string(rt, run_name.as_str())?;
-    let found_text = fs::read_to_string(rt, found_name.as_str())?;
-    let stored = run_of(heap, &mut Numbers::new(run_text.as_str()))?;
-    let wanted = numbers_of(heap, found_text.as_str())?;
+    let all = read(rt, run_name.as_str())?;
+    let wanted = read(rt, found_name.as_str())?;
+    let stored = run_of(heap, &mut Numbers::new(all.as_slice()))?;
     let differing = with_rule!(
         stored.rule,
         |rule| differing_step(heap, rule, &stored, wanted.as_slice())

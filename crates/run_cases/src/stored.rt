@@ -27,20 +27,19 @@ impl StoredRun {
     }
 }
 
-/// Takes the rule, which the file has by a number.
+/// Takes the rule, which the file has by a number: 1 is ratio, any other posted.
 fn rule_of(numbers: &mut Numbers<'_>) -> anyhow::Result<RuleName> {
-    match numbers.next::<u32>()? {
-        0 => Ok(RuleName::Posted),
-        1 => Ok(RuleName::Ratio),
-        _ => Err(anyhow!("a stored rule is of no sort")),
-    }
+    Ok(match numbers.count()? {
+        1 => RuleName::Ratio,
+        _ => RuleName::Posted,
+    })
 }
 
 /// Takes the twelve weights of a sheet.
 fn sheet_of(numbers: &mut Numbers<'_>) -> anyhow::Result<Sheet> {
-    let division = array::try_from_fn(|_| numbers.next())?;
-    let management = array::try_from_fn(|_| numbers.next())?;
-    let split = array::try_from_fn(|_| numbers.next())?;
+    let division = array::try_from_fn(|_| numbers.count())?;
+    let management = array::try_from_fn(|_| numbers.count())?;
+    let split = array::try_from_fn(|_| numbers.count())?;
     let mut sheet = Sheet::even();
     sheet
         .lay(division, management, split)
@@ -50,28 +49,28 @@ fn sheet_of(numbers: &mut Numbers<'_>) -> anyhow::Result<Sheet> {
 
 /// Takes a line of the file.
 fn line_of(numbers: &mut Numbers<'_>) -> anyhow::Result<Line> {
-    let units = numbers.next()?;
+    let units = numbers.count()?;
     let cents = numbers.next()?;
     Ok(Line { units, cents })
 }
 
 /// Takes the lines of the file.
 fn file_of(heap: Global, numbers: &mut Numbers<'_>) -> anyhow::Result<Vec<Line>> {
-    let count = numbers.next::<u32>()?;
+    let count = numbers.count()?;
     (0..count).map(|_| line_of(numbers)).try_collect(heap)
 }
 
 /// Takes the units of all members, of seven kinds each.
 fn rows_of(heap: Global, numbers: &mut Numbers<'_>) -> anyhow::Result<Vec<[u32; 7]>> {
-    let count = numbers.next::<u32>()?;
+    let count = numbers.count()?;
     (0..count)
-        .map(|_| array::try_from_fn(|_| numbers.next()))
+        .map(|_| array::try_from_fn(|_| numbers.count()))
         .try_collect(heap)
 }
 
 /// Takes a book: its month and the units of its members.
 fn book_of(heap: Global, numbers: &mut Numbers<'_>) -> anyhow::Result<TableBook> {
-    let month = numbers.next()?;
+    let month = numbers.count()?;
     let rows = rows_of(heap, numbers)?;
     let mut book = TableBook::blank();
     book.fill(month, rows.as_slice())
@@ -88,11 +87,11 @@ fn costs_of(numbers: &mut Numbers<'_>) -> anyhow::Result<Costs> {
 
 /// Takes one order, whose sort the file has by a number.
 fn order_of(heap: Global, numbers: &mut Numbers<'_>) -> anyhow::Result<Order<TableBook>> {
-    match numbers.next::<u32>()? {
+    match numbers.count()? {
         0 => Ok(Order::Book(costs_of(numbers)?)),
         1 => Ok(Order::Bill(book_of(heap, numbers)?)),
         2 => {
-            let component = numbers.next()?;
+            let component = numbers.count()?;
             Ok(Order::Resettle(component, book_of(heap, numbers)?))
         }
         _ => Err(anyhow!("a stored order is of no sort")),
@@ -101,7 +100,7 @@ fn order_of(heap: Global, numbers: &mut Numbers<'_>) -> anyhow::Result<Order<Tab
 
 /// Takes the orders.
 fn orders_of(heap: Global, numbers: &mut Numbers<'_>) -> anyhow::Result<Vec<Order<TableBook>>> {
-    let count = numbers.next::<u32>()?;
+    let count = numbers.count()?;
     (0..count)
         .map(|_| order_of(heap, numbers))
         .try_collect(heap)
@@ -111,8 +110,8 @@ fn orders_of(heap: Global, numbers: &mut Numbers<'_>) -> anyhow::Result<Vec<Orde
 pub(crate) fn run_of(heap: Global, numbers: &mut Numbers<'_>) -> anyhow::Result<StoredRun> {
     Ok(StoredRun {
         rule: rule_of(numbers)?,
-        members: numbers.next()?,
-        first: numbers.next()?,
+        members: numbers.count()?,
+        first: numbers.count()?,
         sheet: sheet_of(numbers)?,
         file: file_of(heap, numbers)?,
         orders: orders_of(heap, numbers)?,

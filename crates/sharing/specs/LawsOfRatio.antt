@@ -1,10 +1,13 @@
--- No definitions: what the laws of the rule Ratio need.
-use Rattle.std.specs.Prelude.{◌≡◌, ℕ, zero, suc, ◌+◌, ◌<◌, List, [], ◌∷◌, ℤ, pos, ◌+ℤ◌, ◌-ℤ◌, ◌*ℤ◌, slice_index, slice_index_or, refl}
-use Rattle.std.proofs.Common.{arith, sym, ap, subst}
+-- No definitions: what the laws of the rule Ratio need, and that its shares are the whole pool.
+use Rattle.std.specs.Prelude.{◌≡◌, ℕ, zero, suc, ◌+◌, ◌<◌, true, List, [], ◌∷◌, ℤ, pos, ◌+ℤ◌, ◌-ℤ◌, ◌*ℤ◌, sum, slice_index, slice_index_or, refl}
+use Rattle.std.proofs.Common.{arith, sym, ap, ◌∙◌, subst}
 use Rattle.std.proofs.lemmas.Int.{ints}
-use Rattle.cents.specs.Cutting.{taken, parts_from}
-use Rattle.cents.proofs.Parts.{part_left}
+use Rattle.cents.specs.Cutting.{taken, parts_from, cut, sum_z}
+use Rattle.cents.proofs.Parts.{part_left, cut_sum}
+use Rattle.sharing.specs.Domain.{shareable}
 use Rattle.sharing.specs.Tolerance.{Near}
+use Rattle.sharing.specs.Ratio.{ratio}
+use Rattle.sharing.specs.LawsOfRules.{in_domain_lem, shared_is}
 
 -- a part is what its units take after some others
 part_at : (p : ℤ) (T x : ℕ) (us : List ℕ) (m : ℕ)
@@ -29,3 +32,7 @@ part_unused p T x us m e =
     let a = part_at p T x us m in
     let f = ap (taken p T) {x = a.0 + slice_index us m} {y = a.0} (omega arith) in
     omega (arith, ints, a.1, f)
+
+-- the shares by ratio are the whole pool
+pub ratio_whole : (p : ℤ) (us : List ℕ) → shareable p us ≡ true → sum_z (ratio p us) ≡ p
+ratio_whole p us e = ap sum_z (shared_is p us (cut p us) e) ∙ cut_sum p us (in_domain_lem p (sum us) e).1

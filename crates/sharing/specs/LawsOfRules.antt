@@ -31,7 +31,7 @@ pub map_unused : (f : ℕ → ℤ) (us : List ℕ) (m : ℕ) → f 0 ≡ pos 0 �
 map_unused f us m z e = map_at f z us m ∙ ap f e ∙ z
 
 -- shares where they can be made, and else 0 for each member: what each law asks of them
-shared_is : (p : ℤ) (us : List ℕ) (ss : List ℤ) → shareable p us ≡ true → shared p us ss ≡ ss
+pub shared_is : (p : ℤ) (us : List ℕ) (ss : List ℤ) → shareable p us ≡ true → shared p us ss ≡ ss
 shared_is p us ss e = cond-true (shareable p us) ss (no_shares us) e
 
 pub shared_long : (p : ℤ) (us : List ℕ) (ss : List ℤ) → length ss ≡ length us → length (shared p us ss) ≡ length us
