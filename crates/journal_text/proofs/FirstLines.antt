@@ -1,10 +1,10 @@
 -- The first line of a text, and what is known of it before its end is looked for.
-use Rattle.std.proofs.Common.{◌≡◌, ℕ, zero, suc, ◌+◌, ◌<◌, ◌≤◌, min, Bool, true, false, cond, ◌&&◌, ◌||◌, List, [], ◌∷◌, ◌++◌, length, take, drop, codes, Some, None, Option, refl, sym, ◌∙◌, ap, subst, ⊎_elim, length-append, length-take-le, arith}
+use Rattle.std.proofs.Common.{◌≡◌, ℕ, zero, suc, ◌+◌, ◌<◌, ◌≤◌, min, Bool, true, false, cond, ◌&&◌, List, [], ◌∷◌, length, take, drop, codes, Some, None, Option, refl, sym, ◌∙◌, ap, subst, ⊎_elim, length-append, length-take-le, arith}
 use Rattle.std.proofs.lemmas.Bool.{cases_lt, false_from_ne_true, eqb-true}
 use Rattle.std.proofs.lemmas.List.{take_all}
 use lib.Pointwise.{pointwise, pointwise_long}
 use Rattle.std.specs.Prelude.{nat_eq, bytes_eq}
-use Rattle.std.specs.List.{starts_with, list_all}
+use Rattle.std.specs.List.{starts_with}
 use Rattle.month_text.specs.Numbers.{bind}
 use Rattle.month_text.specs.Lines.{past}
 use Rattle.month_text.proofs.Taken.{past_front}
@@ -13,7 +13,6 @@ use Rattle.journal_text.specs.declared.entry.Action.TheVariants.{Resettle}
 use Rattle.journal_text.specs.Pieces.{lines, line_grown, begins, component_of, action_of, first_action}
 use Rattle.journal_text.proofs.Components.{long}
 use Rattle.journal_text.proofs.Lines.{ends}
-use Rattle.journal_text.proofs.Counted.{some_line}
 use Rattle.journal_text.proofs.Months.{Left, Done, done_entry}
 
 -- the bytes up to the first byte 10, and that one
@@ -113,24 +112,10 @@ none_some : {X : Type 0} (x : X) (o : Option X) → o ≡ None → o ≡ Some x 
 none_some x None e f = cc
 none_some x (Some y) e f = cc
 
--- the first line of a text's front, and what it tells of the text
+-- what the first line of a text's front tells of the text
 pub record Front (s l : List ℕ) : Type 0 where
   pub action : action_of l ≡ first_action (lines s)
   pub rest : (a : Action) → action_of l ≡ Some a → lines (drop (length l) s) ≡ drop 1 (lines s)
-  pub some : 0 < length l
-  pub within : length l ≤ length s
-
-first_some : (s : List ℕ) → 0 < length s → 0 < length (first_of s)
-first_some [] h = absurd (omega arith)
-first_some (c ∷ cs) h = omega arith
-
-within_by : (b : Bool) (cs : List ℕ) → length (first_of cs) ≤ length cs → length (cond b [] (first_of cs)) ≤ length cs
-within_by true cs h = omega arith
-within_by false cs h = h
-
-first_within : (s : List ℕ) → length (first_of s) ≤ length s
-first_within [] = omega arith
-first_within (c ∷ cs) = let h = within_by (ends c) cs (first_within cs) in omega (arith, h)
 
 some_front : (s l : List ℕ) (ls : List (List ℕ)) (n : ℕ) → n ≡ min (length s) 14 → lines (take n s) ≡ l ∷ ls → 0 < length s
 some_front [] l ls n e f =
@@ -144,8 +129,6 @@ front_line s l ls n e f =
     let k : length (take n s) ≡ n = length-take-le n s (omega arith) in
     let o : l ≡ first_of (take n s) = first_is (take n s) l ls (omega arith) f in
     let i : l ≡ first_of (take 14 s) = o ∙ ap first_of (same_front s n e) in
-    let w = first_within (take n s) in
-    let p : length l ≡ length (first_of (take n s)) = ap length o in
     record {
       action = ap action_of i ∙ front_action s ∙ sym (ap first_action (first_cut s h));
       rest = λ a g.
@@ -157,15 +140,7 @@ front_line s l ls n e f =
           let m : length l ≡ 14 = ap length (i ∙ first_front 14 s) ∙ length-take-le 14 (first_of s) b in
           absurd (none_some a (action_of l) (long_action l (omega arith)) g))
           (cases_lt (length (first_of s)) 14);
-      some = subst (λ x. 0 < length x) (sym o) (first_some (take n s) (omega arith));
-      within = omega (arith, w, p, k);
     }
-
-pub no_front : (s : List ℕ) (n : ℕ) → n ≡ min (length s) 14 → lines (take n s) ≡ [] → first_action (lines s) ≡ None
-no_front [] n e h = refl
-no_front (c ∷ cs) n e h =
-    let k : length (take n (c ∷ cs)) ≡ n = length-take-le n (c ∷ cs) (omega arith) in
-    absurd (omega (arith, some_line (take n (c ∷ cs)) (omega arith), ap length h))
 
 begins_some : (r : List ℕ) → begins r ≡ true → 0 < length r
 begins_some [] h = cc

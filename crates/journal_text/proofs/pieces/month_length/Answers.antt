@@ -1,4 +1,4 @@
-use Rattle.std.proofs.Common.{rules, arith, ◌≡◌, ◌∙◌, false, true, length}
+use Rattle.std.proofs.Common.{rules, arith, ◌≡◌, ◌∙◌, false}
 use Rattle.journal_text.specs.Pieces.{lines, begins}
 use Rattle.journal_text.proofs.Months.{left_line}
 use Rattle.journal_text.proofs.FirstLines.{begins_line, done_begun}
