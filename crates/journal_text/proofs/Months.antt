@@ -11,9 +11,6 @@ pub record Left (s : List ℕ) (k : ℕ) (r : List ℕ) : Type 0 where
   pub month : month_of (lines s) ≡ take k s ++ month_of (lines r)
   pub after : from_entry (lines s) ≡ from_entry (lines r)
 
-pub left_all : (s : List ℕ) → Left s 0 s
-left_all s = record { within = omega arith; rest = refl; month = refl; after = refl }
-
 pub month_more : (l : List ℕ) (ls : List (List ℕ)) → begins l ≡ false → month_of (l ∷ ls) ≡ l ++ month_of ls
 month_more l ls h = rw h refl
 

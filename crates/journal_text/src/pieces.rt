@@ -47,8 +47,8 @@ fn month_length(text: &[u8]) -> usize
     length
 }
 
-/// What the first line asks for, and the text after it. A longer line than the longest that asks for
-/// something is not read to its end.
+/// What the first line asks for, and the text after it. No more is read of it than one byte beyond the
+/// longest line that asks for something.
 fn entry_line(text: &[u8]) -> Option<(Action, &[u8])>
     ensures action { option_map (λ p. p.0) result ≡ first_action (lines text.now) }
     ensures rest { IfSome result (λ p. lines p.1.now ≡ drop 1 (lines text.now)) }

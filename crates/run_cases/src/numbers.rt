@@ -73,7 +73,7 @@ impl<'a> Numbers<'a> {
         Numbers { rest: all }
     }
 
-    /// Takes the next number, an amount of cents.
+    /// Takes the next number.
     pub(crate) fn next(&mut self) -> anyhow::Result<i64> {
         let (first, rest) = self
             .rest
